@@ -1,0 +1,12 @@
+pub mod Pieces
+pub mod Levels
+pub mod Stands
+pub mod Steps
+pub mod Sofar
+pub mod Sound
+pub mod Grows
+pub mod Complete
+pub mod Decided
+pub mod Alike
+pub mod Tight
+pub mod Reread

@@ -1,0 +1,4 @@
+pub mod Nesting
+pub mod Machine
+pub mod Spelling
+pub mod Spans
