@@ -1,6 +1,7 @@
 // How far a term goes.
 ghost use mathlib.Core.Path.{_≡_};
-ghost use Prim.Native.Nat.{_+_, _^_, _<_};
+ghost use Prim.Native.Nat.{_+_, _^_, _<_, _≤_};
+ghost use lib.ListN.{length};
 ghost use mathlib.Core.List.{map};
 ghost use Rattle.text.specs.View.{token};
 ghost use Rattle.text.specs.Span.{opened, span, Spans};
@@ -21,6 +22,8 @@ fn open_after(depth: usize, t: Token) -> usize
 // The number of tokens of the first term: to the bracket that closes the first token, or one where it opens none.
 pub fn term_len(tokens: &[Token]) -> usize
     ensures value { λ r. ⌜ r ≡ span 0 (map token (now (tokens .entry))) ⌝ }
+    ensures within { λ r. ⌜ r ≤ length (now (tokens .entry)) ⌝ }
+    ensures some { λ r. ⌜ (0 < length (now (tokens .entry)) → 0 < r) ⌝ }
     ensures law { λ _. ⌜ Spans ⌝ }
 {
     let mut depth = 0usize;
