@@ -10,3 +10,4 @@ pub mod Decided
 pub mod Alike
 pub mod Tight
 pub mod Reread
+pub mod Examples
