@@ -4,11 +4,15 @@
 --     Atom X, Literal X    what a rule speaks of
 --     Rule X               a head, and parts that must all hold, each of alternatives of which one must
 --     Form, form           the form that a term is, if it is one
-use Prim.Native.Nat.{ℕ, suc, _+_, _-_, _*_}
-use mathlib.Core.Bool.{Bool, true, false, cond, not, _&&_, _||_}
-use mathlib.Core.List.{List, [], _∷_, _++_}
+use Prim.Native.Nat.{ℕ, _+_, _-_, _*_, _≤_}
+use mathlib.Core.Path.{_≡_}
+use mathlib.Core.Logic.{_↔_}
+use mathlib.Core.Bool.{Bool, true, false, cond, not, _&&_}
+use mathlib.Core.List.{List, [], _∷_}
 use lib.Chars.{codes}
 use lib.Dec.{eqb, leb}
+use Rattle.std.specs.Orderings.{Decides}
+use Rattle.std.specs.Written.{decimal}
 use Rattle.std.specs.declared.option.Option.{Option}
 use Rattle.std.specs.declared.option.Option.the-variants.{Some, None}
 use Rattle.definitions.specs.Term.{Tree, Trees, none, _&_, Term, Terms}
@@ -312,3 +316,15 @@ form t = elim (led-by Keyword.role t) [
     ]
   ]
 ]
+
+-- a word is a keyword exactly if it is spelt as one
+abbrev pub Keywords-spelt : Type 0
+Keywords-spelt = (w : List ℕ) → ((k : Keyword) → (keyword w ≡ Some k) ↔ (w ≡ spelling k)) × ((keyword w ≡ None) ↔ ((k : Keyword) → w ≡ spelling k → ⊥))
+
+-- a goal value is a number up to 100 as it is written in decimal
+abbrev pub Values-decimal : Type 0
+Values-decimal = (w : List ℕ) (n : ℕ) → (value (Tree.word tt w) ≡ Some n) ↔ ((n ≤ 100) × (w ≡ decimal n))
+
+-- terms are equal if alike in words and brackets
+abbrev pub Terms-alike : Type 0
+Terms-alike = (t u : Term) → Decides (same-term t u) (t ≡ u)

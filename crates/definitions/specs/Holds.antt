@@ -114,4 +114,4 @@ Level-local = (rules : List (Rule ℕ)) → Respects (level rules) rules → (k 
 
 -- a fact that rests on no knowledge is the same for every knowledge set
 abbrev pub Without-knowledge : Type 0
-Without-knowledge = (rules : List (Rule ℕ)) → Respects (level rules) rules → (f : ℕ) → rests-on-knowledge rules f ≡ false → (p q : Position) → p .state ≡ q .state → p .moves ≡ q .moves → holds rules p (Atom.fact f) ≡ holds rules q (Atom.fact f)
+Without-knowledge = (rules : List (Rule ℕ)) (f : ℕ) → rests-on-knowledge rules f ≡ false → (p q : Position) → p .state ≡ q .state → p .moves ≡ q .moves → holds rules p (Atom.fact f) ≡ holds rules q (Atom.fact f)

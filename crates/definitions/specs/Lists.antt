@@ -4,7 +4,7 @@
 --     all, any, most       every element passes, one does, the largest value
 --     upto, repeat         the numbers below n, and a step taken n times
 --     firsts               a list without repeats, each element where it appears first
---     First-appearance     what such a list is; Firsts-are-first: it is what is computed
+--     First-appearance     what such a list is
 use Prim.Native.Nat.{ℕ, zero, suc, _+_, _<_, max}
 use mathlib.Core.Path.{_≡_}
 use mathlib.Core.Bool.{Bool, true, false, cond, not, _&&_, _||_}
@@ -62,12 +62,10 @@ pub record Same {X : Type 0} (same : X → X → Bool) : Type 0 where
   pub turned : (x y : X) → same x y ≡ true → same y x ≡ true
   pub onward : (x y z : X) → same x y ≡ true → same y z ≡ true → same x z ≡ true
 
--- ys has the elements of xs, no two the same, in the order in which they come first in xs
+-- ys has the elements of xs, each once and as it comes first in xs, in that order
 pub record First-appearance {X : Type 0} (same : X → X → Bool) (xs ys : List X) : Type 0 where
   pub from : (y : X) → In y ys → In y xs
+  pub first : (y : X) → In y ys → getD xs (first-like same xs y) y ≡ y
   pub every : (x : X) → In x xs → any (λ y. same y x) ys ≡ true
   pub apart : (d : X) (i j : ℕ) → i < j → j < length ys → same (getD ys i d) (getD ys j d) ≡ false
   pub ordered : (d : X) (i j : ℕ) → i < j → j < length ys → first-like same xs (getD ys i d) < first-like same xs (getD ys j d)
-
-abbrev pub Firsts-are-first : Type 1
-Firsts-are-first = (X : Type 0) (same : X → X → Bool) → Same same → (xs : List X) → First-appearance same xs (firsts same xs)

@@ -13,15 +13,14 @@ use lib.ListN.{length, getD, set, take, replicate}
 use Rattle.std.specs.declared.option.Option.{Option}
 use Rattle.std.specs.declared.option.Option.the-variants.{Some, None}
 use Rattle.definitions.specs.Refusal.{Refusal, Verdict, accepted, refused}
-use Rattle.definitions.specs.Form.{Atom}
+use Rattle.definitions.specs.Form.{Atom, same-word}
 use Rattle.definitions.specs.Lists.{joined, keep, upto}
-use Rattle.definitions.specs.Numbering.{row as nth-row}
 use Rattle.definitions.specs.Level.{member}
 use Rattle.definitions.specs.Holds.{holds as model}
 use Rattle.definitions.specs.Ruleset.{Game, roles}
 use Rattle.definitions.specs.Deal.{Deal, standing, among, state-where}
 use Rattle.definitions.specs.Knowledge.{index, in-match}
-use Rattle.definitions.specs.Play.{Turn, Play, nth, before, legal-moves, same-moves, joint-moves, successors, start, knowledge, each-with, next-book, book, class-number, uneven}
+use Rattle.definitions.specs.Play.{Turn, Play, nth, before, legal-moves, joint-moves, successors, start, knowledge, each-with, next-book, book, class-number, uneven}
 
 pub record Table : Type 0 where
   pub game : Game
@@ -96,7 +95,7 @@ module _ (t : Table) where
   knows-role r = ltb r (roles g)
 
   abbrev pub knows-move : ℕ → ℕ → Bool
-  knows-move r m = knows-role r && ltb m (length (nth-row (g .names .moves) r))
+  knows-move r m = knows-role r && ltb m (length (getD (g .names .moves) r []))
 
   abbrev pub knows-fact : ℕ → Bool
   knows-fact p = ltb p (length (g .names .facts))
@@ -139,7 +138,7 @@ module _ (t : Table) where
 
   abbrev pub position-of : List (List ℕ) → List ℕ → ℕ
   position-of [] js = 0
-  position-of (k ∷ ks) js = cond (same-moves g k js) 0 (suc (position-of ks js))
+  position-of (k ∷ ks) js = cond (same-word k js) 0 (suc (position-of ks js))
 
   -- the real play goes on with the committed moves: those of the plays before it come first
   abbrev pub next-real : State → ℕ

@@ -3,14 +3,16 @@
 --     Tables, tables       the names under their numbers
 --     Counted              nothing is more than its most
 --     numbered             a rule over numbers
-use Prim.Native.Nat.{ℕ, _+_}
-use mathlib.Core.Bool.{Bool, true, false, cond, not, _&&_}
+use Prim.Native.Nat.{ℕ}
+use mathlib.Core.Path.{_≡_}
+use mathlib.Core.Bool.{Bool, true, false, cond, _&&_}
 use mathlib.Core.List.{List, [], _∷_, _++_, map}
 use lib.Dec.{eqb, leb}
-use lib.ListN.{length}
+use lib.ListN.{length, getD}
+use Rattle.std.specs.Orderings.{Decides}
 use Rattle.std.specs.declared.option.Option.{Option}
 use Rattle.std.specs.declared.option.Option.the-variants.{Some, None}
-use Rattle.definitions.specs.Lists.{joined, keep, all, firsts}
+use Rattle.definitions.specs.Lists.{In, joined, all, firsts, first-like, First-appearance}
 use Rattle.definitions.specs.Term.{Term}
 use Rattle.definitions.specs.Form.{same-term, Atom, Literal, settled, bare, negated, Rule, Form, declares, opens, rules}
 
@@ -186,22 +188,17 @@ counted fs =
 
 -- the number of a term in a table, and the table's length where it is not there
 abbrev pub number : List Term → Term → ℕ
-number [] t = 0
-number (u ∷ us) t = cond (same-term u t) 0 (1 + number us t)
-
-abbrev pub row : List (List Term) → ℕ → List Term
-row [] n = []
-row (r ∷ rs) n = cond (eqb n 0) r (row rs (Prim.Native.Nat._-_ n 1))
+number ts t = first-like same-term ts t
 
 module _ (t : Tables) where
   abbrev pub role-number : Term → ℕ
   role-number r = number (t .roles) r
 
   abbrev pub move-number : Term → Term → ℕ
-  move-number r m = number (row (t .moves) (role-number r)) m
+  move-number r m = number (getD (t .moves) (role-number r) []) m
 
   abbrev pub percept-number : Term → Term → ℕ
-  percept-number r e = number (row (t .percepts) (role-number r)) e
+  percept-number r e = number (getD (t .percepts) (role-number r) []) e
 
   abbrev pub numbered-atom : Atom Term → Atom ℕ
   numbered-atom (Atom.role r) = Atom.role (role-number r)
@@ -223,3 +220,11 @@ module _ (t : Tables) where
 
   abbrev pub numbered : Rule Term → Rule ℕ
   numbered r = record { head = numbered-atom (r .head); parts = map (map numbered-literal) (r .parts) }
+
+-- a table has the names of its kind by first appearance, and no other list has
+abbrev pub Names-by-first-appearance : Type 0
+Names-by-first-appearance = (xs : List Term) → First-appearance same-term xs (firsts same-term xs) × ((ys : List Term) → First-appearance same-term xs ys → ys ≡ firsts same-term xs)
+
+-- names and their numbers are one to one
+abbrev pub Numbers-tell : Type 0
+Numbers-tell = (ts : List Term) (t u : Term) → In t ts → In u ts → Decides (eqb (number ts t) (number ts u)) (t ≡ u)

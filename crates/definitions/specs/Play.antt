@@ -14,9 +14,8 @@ use lib.ListN.{length, getD}
 use Rattle.std.specs.Orderings.{Decides}
 use Rattle.std.specs.declared.option.Option.{Option}
 use Rattle.std.specs.declared.option.Option.the-variants.{Some, None}
-use Rattle.definitions.specs.Form.{Atom, same-term}
-use Rattle.definitions.specs.Lists.{In, joined, keep, any, upto, firsts, first-like}
-use Rattle.definitions.specs.Numbering.{row}
+use Rattle.definitions.specs.Form.{Atom, same-word, same-term}
+use Rattle.definitions.specs.Lists.{In, joined, keep, any, upto, firsts, first-like, First-appearance}
 use Rattle.definitions.specs.Level.{member}
 use Rattle.definitions.specs.Holds.{Position, holds}
 use Rattle.definitions.specs.Ruleset.{Game, roles, nature}
@@ -55,10 +54,10 @@ frame d ps = record { size = length ps; state = λ i. nth ps i .state; alike = �
 
 module _ (g : Game) where
   abbrev pub moves-of : ℕ → List ℕ
-  moves-of r = upto (length (row (g .names .moves) r))
+  moves-of r = upto (length (getD (g .names .moves) r []))
 
   abbrev pub percepts-of : ℕ → List ℕ
-  percepts-of r = upto (length (row (g .names .percepts) r))
+  percepts-of r = upto (length (getD (g .names .percepts) r []))
 
   abbrev pub features : List ℕ
   features = upto (length (g .names .features))
@@ -118,17 +117,11 @@ module _ (g : Game) where
   abbrev pub is-player : ℕ → Bool
   is-player r = not (same-term (getD (g .names .roles) r nature) nature)
 
-  abbrev pub same-moves : List ℕ → List ℕ → Bool
-  same-moves [] [] = true
-  same-moves [] (n ∷ ns) = false
-  same-moves (m ∷ ms) [] = false
-  same-moves (m ∷ ms) (n ∷ ns) = eqb m n && same-moves ms ns
-
   -- two plays that the player can't tell apart, with different legal moves
   abbrev pub tells-apart : Deal → List Play → ℕ → Bool
   tells-apart d ps r =
       let ls = each-with {X = Play × List ℕ} (λ p K. (p, legal-moves p K r)) ps (knowledge d ps) in
-      any (λ x. any (λ y. alike d r (x .0) (y .0) && not (same-moves (x .1) (y .1))) ls) ls
+      any (λ x. any (λ y. alike d r (x .0) (y .0) && not (same-word (x .1) (y .1))) ls) ls
 
   abbrev pub first-role : (ℕ → Bool) → List ℕ → Option ℕ
   first-role test [] = None
@@ -169,3 +162,7 @@ round-deal g d ps real = record {
 -- two plays of a book share a role's class number exactly if the role can't tell them apart
 abbrev pub Classes-tell : Type 0
 Classes-tell = (d : Deal) (r : ℕ) (ps : List Play) (i j : ℕ) → i < length ps → j < length ps → Decides (eqb (class-number d r ps i) (class-number d r ps j)) (alike d r (nth ps i) (nth ps j) ≡ true)
+
+-- and they are numbered by first appearance
+abbrev pub Classes-by-first-appearance : Type 0
+Classes-by-first-appearance = (d : Deal) (r : ℕ) (ps : List Play) → First-appearance (alike d r) ps (firsts (alike d r) ps)

@@ -1,6 +1,66 @@
 // What the answers of a referee unit mean: the definitions are in specs/. Each function here has a theorem about them for its contract.
+ghost use Rattle.definitions.specs.Form.{Keywords-spelt, Values-decimal, Terms-alike};
+ghost use Rattle.definitions.specs.Holds.{Holds-standard, Standard-one, Level-local, Without-knowledge};
+ghost use Rattle.definitions.specs.Level.{Reaches-decides, Levels-least, No-levels};
+ghost use Rattle.definitions.specs.Numbering.{Names-by-first-appearance, Numbers-tell};
+ghost use Rattle.definitions.specs.Play.{Classes-tell, Classes-by-first-appearance};
+ghost use Rattle.definitions.specs.Reading.{Decided};
 ghost use Rattle.definitions.specs.Worked.{Worked};
+ghost use Rattle.definitions.specs.Writing.{Reread};
 
+// Each text is read or refused, in one way; what is written reads as the same terms.
+pub fn text_laws() -> u8
+    ensures read { λ _. ⌜ Decided ⌝ }
+    ensures written { λ _. ⌜ Reread ⌝ }
+{
+    0
+}
+
+// What equal terms, keywords and goal values are.
+pub fn form_laws() -> u8
+    ensures terms { λ _. ⌜ Terms-alike ⌝ }
+    ensures keywords { λ _. ⌜ Keywords-spelt ⌝ }
+    ensures values { λ _. ⌜ Values-decimal ⌝ }
+{
+    0
+}
+
+// Names are numbered by first appearance, one to one.
+pub fn numbering_laws() -> u8
+    ensures first { λ _. ⌜ Names-by-first-appearance ⌝ }
+    ensures one { λ _. ⌜ Numbers-tell ⌝ }
+{
+    0
+}
+
+// Dependence is decided; levels exist exactly where nothing comes back, and the least are computed.
+pub fn level_laws() -> u8
+    ensures dependence { λ _. ⌜ Reaches-decides ⌝ }
+    ensures least { λ _. ⌜ Levels-least ⌝ }
+    ensures refused { λ _. ⌜ No-levels ⌝ }
+{
+    0
+}
+
+// What holds is the standard model, of which there is one; it looks only at knowledge below, and a fact that rests on none at none.
+pub fn model_laws() -> u8
+    ensures standard { λ _. ⌜ Holds-standard ⌝ }
+    ensures one { λ _. ⌜ Standard-one ⌝ }
+    ensures local { λ _. ⌜ Level-local ⌝ }
+    ensures unaware { λ _. ⌜ Without-knowledge ⌝ }
+{
+    0
+}
+
+// Class numbers say what a role can't tell apart, by first appearance.
+pub fn class_laws() -> u8
+    ensures tell { λ _. ⌜ Classes-tell ⌝ }
+    ensures first { λ _. ⌜ Classes-by-first-appearance ⌝ }
+{
+    0
+}
+
+// The worked positions hold of the definitions.
 pub fn worked_positions() -> u8
     ensures { λ _. ⌜ Worked ⌝ }
 {

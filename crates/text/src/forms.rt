@@ -1,12 +1,20 @@
 // The forms of a text, and the forms written out again.
 ghost use mathlib.Core.Path.{_≡_};
+ghost use mathlib.Core.Bool.{not};
 ghost use mathlib.Core.List.{[]};
+ghost use lib.Dec.{leb};
 ghost use Rattle.definitions.specs.Reading.{verdict, Decided};
 ghost use Rattle.text.specs.Table.{held, Filled};
 use crate::fault::TextFault;
 use crate::reader::Reader;
 use crate::token::Token;
 use std::alloc::Global;
+
+fn too_long(len: usize) -> bool
+    ensures { λ r. ⌜ r ≡ not (leb len 32768) ⌝ }
+{
+    len > 32768
+}
 
 // A table of the tokens of a text, in order.
 #[derive(Drop)]
@@ -35,7 +43,7 @@ impl<'a> Forms<'a> {
         ensures law { λ _. ⌜ Decided ⌝ }
     {
         self.tokens.clear();
-        if text.len() > 32768 {
+        if too_long(text.len()) {
             return Err(TextFault::TooLong);
         }
         let mut reader = Reader::new(heap);

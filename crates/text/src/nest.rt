@@ -1,6 +1,11 @@
 // The tokens of a text so far, and the brackets among them that are still open.
 ghost use mathlib.Core.Path.{_≡_};
-ghost use Rattle.std.specs.Of.Vec.{vec-items};
+ghost use Prim.Native.Nat.{_-_, _<_};
+ghost use mathlib.Core.Bool.{not};
+ghost use lib.Dec.{ltb};
+ghost use lib.ListN.{getD};
+ghost use Rattle.std.specs.Of.Vec.{vec-items, vec-len};
+ghost use Rattle.std.specs.Options.{Cases};
 ghost use Rattle.definitions.specs.Term.{Tree, none};
 ghost use Rattle.definitions.specs.Text.{Levels, outer, Sort};
 ghost use Rattle.definitions.specs.Reading.{Mode, next, add, mark, shut, ended};
@@ -37,10 +42,23 @@ impl<'a> Nest<'a> {
         Ok(())
     }
 
+    // Eight brackets are open.
+    fn is_full(&self) -> bool
+        ensures { λ r. ⌜ r ≡ not (ltb (vec-len (now (self .entry) .opens)) 8) ⌝ }
+    {
+        self.opens.len() >= 8
+    }
+
+    fn innermost(&self) -> Option<usize>
+        ensures { λ r. ⌜ Cases r (vec-len (now (self .entry) .opens) ≡ 0) (λ x. (0 < vec-len (now (self .entry) .opens)) × (x ≡ getD (vec-items (now (self .entry) .opens)) (vec-len (now (self .entry) .opens) - 1) x)) ⌝ }
+    {
+        self.opens.last().copied()
+    }
+
     pub(crate) fn open_at(&mut self, at: usize) -> Result<(), TextFault>
         ensures { λ r. ⌜ ((ls : Levels) → Nests (now (self .entry)) ls → Nested r (now (self .exit)) (mark at 40 ls Sort.opening)) ⌝ }
     {
-        if self.opens.len() >= 8 {
+        if self.is_full() {
             return Err(TextFault::TooDeep { at });
         }
         self.tokens.push(Token::Open { at })?;
@@ -67,8 +85,8 @@ impl<'a> Nest<'a> {
     pub(crate) fn finish(&self) -> Result<(), TextFault>
         ensures { λ r. ⌜ ((ls : Levels) → Nests (now (self .entry)) ls → Ended r (vec-items (now (self .entry) .tokens)) (ended ls)) ⌝ }
     {
-        match self.opens.last() {
-            Some(at) => Err(TextFault::Unclosed { at: *at }),
+        match self.innermost() {
+            Some(at) => Err(TextFault::Unclosed { at }),
             None => Ok(()),
         }
     }

@@ -1,0 +1,5 @@
+use Rattle.definitions.proofs.Classes.{classes-tell, classes-by-first-appearance}
+use Rattle.definitions.proofs.class_laws.Needs as need
+
+pub returns : need.returns
+returns c = record { tell = classes-tell; first = classes-by-first-appearance }
