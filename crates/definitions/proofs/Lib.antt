@@ -19,6 +19,7 @@ pub mod Derive
 pub mod Climb
 pub mod Standard
 pub mod Local
+pub mod Agreed
 pub mod Ranks
 pub mod Least
 pub mod Ranked
@@ -31,3 +32,8 @@ pub mod Classes
 pub mod Values
 pub mod Relisted
 pub mod Numbers
+pub mod Upto
+pub mod Chains
+pub mod Known
+pub mod Knowing
+pub mod Readings

@@ -58,7 +58,7 @@ module _ (level : Atom ℕ → ℕ) (rules : List (Rule ℕ)) (G H : Atoms) (D :
   climb-same-in (suc n) a d = repeat-both Same-in _ _ (derive-same-in n rules (λ r i. i)) (length rules) _ _ (climb-same-in n) a d
 
 module _ (p q : Position) (states : p .state ≡ q .state) (moves : p .moves ≡ q .moves) where
-  given-same : (a : Atom ℕ) → ((r f : ℕ) → a ≡ Atom.knows r f → member (p .knowledge) (Atom.knows r f) ≡ member (q .knowledge) (Atom.knows r f)) → ((f : ℕ) → a ≡ Atom.common f → member (p .knowledge) (Atom.common f) ≡ member (q .knowledge) (Atom.common f)) → given p a ≡ given q a
+  pub given-same : (a : Atom ℕ) → ((r f : ℕ) → a ≡ Atom.knows r f → member (p .knowledge) (Atom.knows r f) ≡ member (q .knowledge) (Atom.knows r f)) → ((f : ℕ) → a ≡ Atom.common f → member (p .knowledge) (Atom.common f) ≡ member (q .knowledge) (Atom.common f)) → given p a ≡ given q a
   given-same (Atom.role r) h k = refl
   given-same (Atom.true-now f) h k = ap (bit f) states
   given-same (Atom.does r m) h k = ap (λ ms. made ms r m) moves

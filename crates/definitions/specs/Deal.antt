@@ -13,8 +13,8 @@ use lib.Dec.{eqb, ltb, leb}
 use lib.ListN.{length, getD, take, drop}
 use Rattle.std.specs.declared.option.Option.{Option}
 use Rattle.std.specs.declared.option.Option.the-variants.{Some, None}
-use Rattle.definitions.specs.Refusal.{Refusal, deal-layer, Verdict, accepted, refused}
-use Rattle.definitions.specs.Lists.{keep, upto}
+use Rattle.definitions.specs.Refusal.{Refusal, deal-layer, Verdict, accepted, refused, At-verdict}
+use Rattle.definitions.specs.Lists.{joined, keep, upto}
 use Rattle.definitions.specs.Ruleset.{Game, then}
 
 -- a world's state has bit f for feature f
@@ -129,3 +129,32 @@ settled end s = elim (s .real) [
 
 abbrev pub sheet-verdict : List ℕ → Verdict Deal
 sheet-verdict bs = then (records (length bs) 0 (record { worlds = []; real = None }) bs) (settled (length bs))
+
+-- a record as it is laid out: its kind byte and a body of the length that the kind fixes
+pub record Laid : Type 0 where
+  pub kind : ℕ
+  pub content : List ℕ
+  pub fits : body-length kind ≡ Some (length content)
+
+abbrev pub laid-bytes : Laid → List ℕ
+laid-bytes l = l .kind ∷ l .content
+
+abbrev pub worlds-in : Laid → List (ℕ × List ℕ)
+worlds-in l = elim (record-of (l .kind) (l .content)) [ Record.world st cs ↦ (st, cs) ∷ [] | Record.real w ↦ [] ]
+
+abbrev pub reals-in : Laid → List ℕ
+reals-in l = elim (record-of (l .kind) (l .content)) [ Record.world st cs ↦ [] | Record.real w ↦ w ∷ [] ]
+
+-- the bytes are those of a list of records with at most 64 worlds and one real world among them, and this is their deal
+pub record Sheet-of (bs : List ℕ) (d : Deal) : Type 0 where
+  pub laid : List Laid
+  pub bytes : joined laid-bytes laid ≡ bs
+  pub few : length (joined worlds-in laid) ≤ 64
+  pub real : ℕ
+  pub one : joined reals-in laid ≡ real ∷ []
+  pub within : real < length (joined worlds-in laid)
+  pub deal : d ≡ sheet-deal (joined worlds-in laid) real
+
+-- a sheet is accepted exactly if it is laid out so
+abbrev pub Sheets-decided : Type 0
+Sheets-decided = (bs : List ℕ) → At-verdict (sheet-verdict bs) (Sheet-of bs) (λ r. (d : Deal) → Sheet-of bs d → ⊥)

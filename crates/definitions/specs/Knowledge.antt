@@ -13,11 +13,11 @@ use lib.ListN.{length, getD}
 use Rattle.std.specs.declared.option.Option.the-variants.{None}
 use Rattle.std.specs.Orderings.{Decides}
 use Rattle.definitions.specs.Refusal.{Refusal, match-layer, Verdict, accepted, refused}
-use Rattle.definitions.specs.Form.{Atom, Rule}
-use Rattle.definitions.specs.Lists.{In, joined, keep, all, any, upto, repeat}
-use Rattle.definitions.specs.Level.{member, highest, level, Respects, named, body, about}
+use Rattle.definitions.specs.Form.{Atom}
+use Rattle.definitions.specs.Lists.{joined, keep, all, any, upto, repeat}
+use Rattle.definitions.specs.Level.{member, highest}
 use Rattle.definitions.specs.Holds.{Position, holds}
-use Rattle.definitions.specs.Ruleset.{Game, roles}
+use Rattle.definitions.specs.Ruleset.{Game, roles, Sound-game}
 use Rattle.definitions.specs.Deal.{Deal, Deck, Seats, standing, among, in-deal}
 
 -- worlds are numbered from 0 to below the size
@@ -108,19 +108,21 @@ hint-verdict g d p row =
     (cond (ltb row (d .deck .size)) (refused (in-deal 22 0))
     (cond (in-deal-holds g d p (d .seats .real)) (accepted (hinted g d p)) (refused (in-deal 21 0))))
 
--- what is computed is the knowledge in a frame, and there is one only, for rules with levels whose knows atoms name roles
-abbrev pub Knowers : Game → Type 0
-Knowers g = (x : Rule ℕ) → In x (g .rules) → (r p : ℕ) → In (Atom.knows r p) (joined named (body x)) → r < roles g
-
-abbrev pub Facts-named : Game → Type 0
-Facts-named g = (x : Rule ℕ) → In x (g .rules) → (p : ℕ) → In (Atom.fact p) (joined about (joined named (body x))) → p < length (g .names .facts)
-
+-- what is computed is the knowledge in a frame, and there is one only
 abbrev pub Knowing-knows : Type 0
-Knowing-knows = (g : Game) (f : Frame) → Respects (level (g .rules)) (g .rules) → Knowers g → Facts-named g → Knowledge g f (λ w. getD (knowing g f) w [])
+Knowing-knows = (g : Game) (f : Frame) → Sound-game g → Knowledge g f (λ w. getD (knowing g f) w [])
 
 abbrev pub Knowledge-one : Type 0
 Knowledge-one =
-    (g : Game) (f : Frame) → Respects (level (g .rules)) (g .rules) → Knowers g → Facts-named g
+    (g : Game) (f : Frame) → Sound-game g
     → (J K : ℕ → List (Atom ℕ)) → Knowledge g f J → Knowledge g f K
     → (w : ℕ) → w < f .size → (p : ℕ) → p < length (g .names .facts)
     → ((r : ℕ) → r < roles g → member (J w) (Atom.knows r p) ≡ member (K w) (Atom.knows r p)) × (member (J w) (Atom.common p) ≡ member (K w) (Atom.common p))
+
+-- the computed chains are the chains
+abbrev pub Chains-decided : Type 0
+Chains-decided = (g : Game) (f : Frame) (w v : ℕ) → w < f .size → Decides (among (chained g f w) v) (Chain (roles g) f w v)
+
+-- after a hint a world stands exactly if it stood and the fact holds in it, and nothing else is changed
+abbrev pub Hint-leaves : Type 0
+Hint-leaves = (g : Game) (d : Deal) (p w : ℕ) → w < d .deck .size → Decides (hinted g d p .deck .stands w) ((d .deck .stands w ≡ true) × (in-deal-holds g d p w ≡ true))

@@ -11,6 +11,7 @@ use mathlib.Core.Bool.{Bool, true, false, cond, not, _&&_}
 use mathlib.Core.List.{List, [], _∷_, _++_, map}
 use lib.Dec.{eqb, ltb}
 use lib.ListN.{length, getD}
+use Rattle.std.specs.Options.{Cases}
 use Rattle.std.specs.Orderings.{Decides}
 use Rattle.std.specs.declared.option.Option.{Option}
 use Rattle.std.specs.declared.option.Option.the-variants.{Some, None}
@@ -18,7 +19,7 @@ use Rattle.definitions.specs.Form.{Atom, same-word, same-term}
 use Rattle.definitions.specs.Lists.{In, joined, keep, any, upto, firsts, first-like, First-appearance}
 use Rattle.definitions.specs.Level.{member}
 use Rattle.definitions.specs.Holds.{Position, holds}
-use Rattle.definitions.specs.Ruleset.{Game, roles, nature}
+use Rattle.definitions.specs.Ruleset.{Game, roles, nature, Sound-game}
 use Rattle.definitions.specs.Deal.{Deal, standing, state-where}
 use Rattle.definitions.specs.Knowledge.{Frame, knowing}
 
@@ -159,6 +160,40 @@ round-deal g d ps real = record {
   seats = record { class = λ r i. cond (ltb r (roles g) && ltb i (length ps)) (class-number d r ps i) 0; real = real };
 }
 
+abbrev pub same-turn : Turn → Turn → Bool
+same-turn t u = same-word (t .moves) (u .moves) && same-word (t .seen) (u .seen)
+
+abbrev pub same-turns : List Turn → List Turn → Bool
+same-turns [] [] = true
+same-turns [] (u ∷ us) = false
+same-turns (t ∷ ts) [] = false
+same-turns (t ∷ ts) (u ∷ us) = same-turn t u && same-turns ts us
+
+abbrev pub same-play : Play → Play → Bool
+same-play p q = eqb (p .world) (q .world) && same-turns (p .turns) (q .turns) && eqb (p .state) (q .state)
+
+-- whether a play is in the book of n rounds, and the knowledge set that the book gives it
+abbrev pub in-book : Game → Deal → ℕ → Play → Bool
+in-book g d n p = any (λ q. same-play q p) (book g d n)
+
+abbrev pub book-knowledge : Game → Deal → ℕ → Play → List (Atom ℕ)
+book-knowledge g d n p = getD (knowledge g d (book g d n)) (first-like same-play (book g d n) p) []
+
+-- the books have exactly the legal plays, each once, with the knowledge in them, and there is one reading of legality and knowledge only
+abbrev pub Books-are-plays : Type 0
+Books-are-plays = (g : Game) (d : Deal) → Sound-game g → Plays g d (in-book g d) (book-knowledge g d)
+
+abbrev pub Plays-once : Type 0
+Plays-once = (g : Game) (d : Deal) (n i j : ℕ) → i < j → j < length (book g d n) → same-play (nth (book g d n) i) (nth (book g d n) j) ≡ false
+
+abbrev pub Plays-one : Type 0
+Plays-one =
+    (g : Game) (d : Deal) → Sound-game g
+    → (L M : ℕ → Play → Bool) (K J : ℕ → Play → List (Atom ℕ)) → Plays g d L K → Plays g d M J
+    → (n : ℕ) (p : Play)
+    → (L n p ≡ M n p)
+    × (L n p ≡ true → (q : ℕ) → q < length (g .names .facts) → ((r : ℕ) → r < roles g → member (K n p) (Atom.knows r q) ≡ member (J n p) (Atom.knows r q)) × (member (K n p) (Atom.common q) ≡ member (J n p) (Atom.common q)))
+
 -- two plays of a book share a role's class number exactly if the role can't tell them apart
 abbrev pub Classes-tell : Type 0
 Classes-tell = (d : Deal) (r : ℕ) (ps : List Play) (i j : ℕ) → i < length ps → j < length ps → Decides (eqb (class-number d r ps i) (class-number d r ps j)) (alike d r (nth ps i) (nth ps j) ≡ true)
@@ -166,3 +201,17 @@ Classes-tell = (d : Deal) (r : ℕ) (ps : List Play) (i j : ℕ) → i < length 
 -- and they are numbered by first appearance
 abbrev pub Classes-by-first-appearance : Type 0
 Classes-by-first-appearance = (d : Deal) (r : ℕ) (ps : List Play) → First-appearance (alike d r) ps (firsts (alike d r) ps)
+
+-- a book is even if plays that a player can't tell apart give that player equal legal moves
+abbrev pub Even : Game → Deal → List Play → ℕ → Type 0
+Even g d ps r =
+    (i j : ℕ) → i < length ps → j < length ps → alike d r (nth ps i) (nth ps j) ≡ true
+    → legal-moves g (nth ps i) (getD (knowledge g d ps) i []) r ≡ legal-moves g (nth ps j) (getD (knowledge g d ps) j []) r
+
+-- the lowest player for whom the book is not even, if there is one
+abbrev pub Evenness-judged : Type 0
+Evenness-judged =
+    (g : Game) (d : Deal) (ps : List Play)
+    → Cases (uneven g d ps)
+    ((r : ℕ) → r < roles g → is-player g r ≡ true → Even g d ps r)
+    (λ r. (r < roles g) × (is-player g r ≡ true) × (Even g d ps r → ⊥) × ((q : ℕ) → q < r → is-player g q ≡ true → Even g d ps q))

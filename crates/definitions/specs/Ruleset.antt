@@ -3,22 +3,23 @@
 --     forms-verdict      the forms in order: broken ones and counts
 --     Game               what is played: counts, rules over numbers, the opening state
 --     game-verdict       the verdict on a text
-use Prim.Native.Nat.{ℕ, _+_, _^_}
-use mathlib.Core.Bool.{Bool, true, false, cond, not, _&&_}
+--     Sound-game         what an accepted game keeps to
+use Prim.Native.Nat.{ℕ, _≤_, _<_}
+use mathlib.Core.Path.{_≡_}
+use mathlib.Core.Bool.{Bool, true, false, cond, not}
 use mathlib.Core.List.{List, [], _∷_, _++_, map}
 use lib.Chars.{codes}
-use lib.Dec.{eqb}
-use lib.ListN.{length}
+use lib.ListN.{length, getD}
 use Rattle.std.specs.declared.option.Option.{Option}
 use Rattle.std.specs.declared.option.Option.the-variants.{Some, None}
 use Rattle.definitions.specs.Refusal.{Refusal, rules-layer, Verdict, accepted, refused}
 use Rattle.definitions.specs.Term.{Tree, none, _&_, Term, Placed}
 use Rattle.definitions.specs.Term as terms
 use Rattle.definitions.specs.Reading.{verdict}
-use Rattle.definitions.specs.Form.{same-term, Rule, Form, declares, opens, rules, form}
-use Rattle.definitions.specs.Lists.{joined, any}
+use Rattle.definitions.specs.Form.{same-term, Atom, Rule, Form, declares, opens, rules, form}
+use Rattle.definitions.specs.Lists.{In, joined, any}
 use Rattle.definitions.specs.Numbering.{Tables, tables, counted, rules-of, in-form, roles-in, number, numbered}
-use Rattle.definitions.specs.Level.{comes-back, looks-ahead}
+use Rattle.definitions.specs.Level.{level, Respects, named, body, about, comes-back, looks-ahead}
 
 pub record Ruled : Type 0 where
   pub place : ℕ
@@ -106,3 +107,20 @@ some-role end fs = elim (declared (map (λ r. r .form) fs)) [ [] ↦ refused (in
 
 abbrev pub game-verdict : List ℕ → Verdict Game
 game-verdict text = then (verdict text) (λ ts. then (forms-verdict [] ts) (some-role (length text)))
+
+-- what an accepted game keeps to: counts within their bounds, levels that fit, knows atoms over its own roles and facts, and nothing decided too early by a joint move
+pub record Sound-game (g : Game) : Type 0 where
+  pub some-role : 0 < roles g
+  pub few-roles : roles g ≤ 8
+  pub few-features : length (g .names .features) ≤ 64
+  pub few-moves : (r : ℕ) → length (getD (g .names .moves) r []) ≤ 32
+  pub few-percepts : (r : ℕ) → length (getD (g .names .percepts) r []) ≤ 64
+  pub few-facts : length (g .names .facts) ≤ 256
+  pub few-rules : length (g .rules) ≤ 1024
+  pub levels : Respects (level (g .rules)) (g .rules)
+  pub knowers : (x : Rule ℕ) → In x (g .rules) → (r p : ℕ) → In (Atom.knows r p) (joined named (body x)) → r < roles g
+  pub known : (x : Rule ℕ) → In x (g .rules) → (p : ℕ) → In (Atom.fact p) (joined about (joined named (body x))) → p < length (g .names .facts)
+  pub early : (x : Rule ℕ) → In x (g .rules) → looks-ahead (g .rules) x ≡ false
+
+abbrev pub Accepted-sound : Type 0
+Accepted-sound = (text : List ℕ) (g : Game) → game-verdict text ≡ accepted g → Sound-game g

@@ -1,9 +1,10 @@
 // What the answers of a referee unit mean: the definitions are in specs/. Each function here has a theorem about them for its contract.
 ghost use Rattle.definitions.specs.Form.{Keywords-spelt, Values-decimal, Terms-alike};
 ghost use Rattle.definitions.specs.Holds.{Holds-standard, Standard-one, Level-local, Without-knowledge};
+ghost use Rattle.definitions.specs.Knowledge.{Knowing-knows, Knowledge-one};
 ghost use Rattle.definitions.specs.Level.{Reaches-decides, Levels-least, No-levels};
 ghost use Rattle.definitions.specs.Numbering.{Names-by-first-appearance, Numbers-tell};
-ghost use Rattle.definitions.specs.Play.{Classes-tell, Classes-by-first-appearance};
+ghost use Rattle.definitions.specs.Play.{Classes-tell, Classes-by-first-appearance, Plays-one};
 ghost use Rattle.definitions.specs.Reading.{Decided};
 ghost use Rattle.definitions.specs.Worked.{Worked};
 ghost use Rattle.definitions.specs.Writing.{Reread};
@@ -48,6 +49,21 @@ pub fn model_laws() -> u8
     ensures one { λ _. ⌜ Standard-one ⌝ }
     ensures local { λ _. ⌜ Level-local ⌝ }
     ensures unaware { λ _. ⌜ Without-knowledge ⌝ }
+{
+    0
+}
+
+// What is computed is the knowledge in a frame, of which there is one.
+pub fn knowledge_laws() -> u8
+    ensures known { λ _. ⌜ Knowing-knows ⌝ }
+    ensures one { λ _. ⌜ Knowledge-one ⌝ }
+{
+    0
+}
+
+// There is one reading of which plays are legal and what is known in them.
+pub fn play_laws() -> u8
+    ensures one { λ _. ⌜ Plays-one ⌝ }
 {
     0
 }

@@ -1,0 +1,5 @@
+use Rattle.definitions.proofs.Knowing.{knowing-knows, knowledge-one}
+use Rattle.definitions.proofs.knowledge_laws.Needs as need
+
+pub returns : need.returns
+returns c = record { known = knowing-knows; one = knowledge-one }
