@@ -37,3 +37,8 @@ pub mod Chains
 pub mod Known
 pub mod Knowing
 pub mod Readings
+pub mod Verdicts
+pub mod Mapped
+pub mod Mentioned
+pub mod Counted
+pub mod Accepted

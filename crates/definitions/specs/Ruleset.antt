@@ -115,6 +115,8 @@ pub record Sound-game (g : Game) : Type 0 where
   pub few-features : length (g .names .features) ≤ 64
   pub few-moves : (r : ℕ) → length (getD (g .names .moves) r []) ≤ 32
   pub few-percepts : (r : ℕ) → length (getD (g .names .percepts) r []) ≤ 64
+  pub few-goals : length (g .names .goals) ≤ 64
+  pub few-knows : length (g .names .knows) ≤ 64
   pub few-facts : length (g .names .facts) ≤ 256
   pub few-rules : length (g .rules) ≤ 1024
   pub levels : Respects (level (g .rules)) (g .rules)

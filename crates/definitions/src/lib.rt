@@ -6,6 +6,7 @@ ghost use Rattle.definitions.specs.Level.{Reaches-decides, Levels-least, No-le
 ghost use Rattle.definitions.specs.Numbering.{Names-by-first-appearance, Numbers-tell};
 ghost use Rattle.definitions.specs.Play.{Classes-tell, Classes-by-first-appearance, Plays-one};
 ghost use Rattle.definitions.specs.Reading.{Decided};
+ghost use Rattle.definitions.specs.Ruleset.{Accepted-sound};
 ghost use Rattle.definitions.specs.Worked.{Worked};
 ghost use Rattle.definitions.specs.Writing.{Reread};
 
@@ -39,6 +40,13 @@ pub fn level_laws() -> u8
     ensures dependence { λ _. ⌜ Reaches-decides ⌝ }
     ensures least { λ _. ⌜ Levels-least ⌝ }
     ensures refused { λ _. ⌜ No-levels ⌝ }
+{
+    0
+}
+
+// What an accepted game keeps to.
+pub fn game_laws() -> u8
+    ensures sound { λ _. ⌜ Accepted-sound ⌝ }
 {
     0
 }
