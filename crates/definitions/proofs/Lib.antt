@@ -42,3 +42,10 @@ pub mod Mapped
 pub mod Mentioned
 pub mod Counted
 pub mod Accepted
+pub mod Plays
+pub mod Repeats
+pub mod Joint
+pub mod Beside
+pub mod Once
+pub mod Places
+pub mod Books

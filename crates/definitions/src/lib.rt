@@ -1,10 +1,10 @@
 // What the answers of a referee unit mean: the definitions are in specs/. Each function here has a theorem about them for its contract.
 ghost use Rattle.definitions.specs.Form.{Keywords-spelt, Values-decimal, Terms-alike};
 ghost use Rattle.definitions.specs.Holds.{Holds-standard, Standard-one, Level-local, Without-knowledge};
-ghost use Rattle.definitions.specs.Knowledge.{Knowing-knows, Knowledge-one};
+ghost use Rattle.definitions.specs.Knowledge.{Chains-decided, Knowing-knows, Knowledge-one};
 ghost use Rattle.definitions.specs.Level.{Reaches-decides, Levels-least, No-levels};
 ghost use Rattle.definitions.specs.Numbering.{Names-by-first-appearance, Numbers-tell};
-ghost use Rattle.definitions.specs.Play.{Classes-tell, Classes-by-first-appearance, Plays-one};
+ghost use Rattle.definitions.specs.Play.{Classes-tell, Classes-by-first-appearance, Books-are-plays, Plays-once, Plays-one};
 ghost use Rattle.definitions.specs.Reading.{Decided};
 ghost use Rattle.definitions.specs.Ruleset.{Accepted-sound};
 ghost use Rattle.definitions.specs.Worked.{Worked};
@@ -61,16 +61,19 @@ pub fn model_laws() -> u8
     0
 }
 
-// What is computed is the knowledge in a frame, of which there is one.
+// What is computed is the knowledge in a frame, of which there is one, and its chains are chains.
 pub fn knowledge_laws() -> u8
+    ensures chains { λ _. ⌜ Chains-decided ⌝ }
     ensures known { λ _. ⌜ Knowing-knows ⌝ }
     ensures one { λ _. ⌜ Knowledge-one ⌝ }
 {
     0
 }
 
-// There is one reading of which plays are legal and what is known in them.
+// The books have exactly the legal plays, each once, with what is known in them, and there is one reading of both.
 pub fn play_laws() -> u8
+    ensures books { λ _. ⌜ Books-are-plays ⌝ }
+    ensures once { λ _. ⌜ Plays-once ⌝ }
     ensures one { λ _. ⌜ Plays-one ⌝ }
 {
     0
