@@ -19,14 +19,10 @@ use Rattle.definitions.specs.Play.{Play, nth, alike, frame, before, start, aft
 use Rattle.definitions.proofs.Listed.{in-joined, joined-in, repeat-keeps}
 use Rattle.definitions.proofs.Upto.{map-in, in-map, length-upto}
 use Rattle.definitions.proofs.Chains.{chain-below}
+use Rattle.definitions.proofs.Evenness.{knowing-length}
 use Rattle.definitions.proofs.Joint.{joint-legal, legal-joint}
 use Rattle.definitions.proofs.Beside.{each-in, in-each}
 use Rattle.definitions.proofs.Places.{plays, row, place, listed, place-below, at-place, found, nth-listed, row-nth}
-
-knowing-length : (g : Game) (f : Frame) → length (knowing g f) ≡ f .size
-knowing-length g f =
-    repeat-keeps (deeper g f) (λ Ks. length Ks ≡ f .size) (λ Ks e. length-map (upto (f .size)) _ ∙ length-upto (f .size)) (suc (highest (g .rules))) _
-    (length-map (upto (f .size)) (λ w. []) ∙ length-upto (f .size))
 
 module _ (g : Game) (d : Deal) (n : ℕ) where
   abbrev ps : List Play

@@ -48,4 +48,8 @@ pub mod Joint
 pub mod Beside
 pub mod Once
 pub mod Places
+pub mod Hints
+pub mod Evenness
+pub mod Noted
+pub mod Sheets
 pub mod Books

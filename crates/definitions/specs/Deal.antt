@@ -155,6 +155,6 @@ pub record Sheet-of (bs : List ℕ) (d : Deal) : Type 0 where
   pub within : real < length (joined worlds-in laid)
   pub deal : d ≡ sheet-deal (joined worlds-in laid) real
 
--- a sheet is accepted exactly if it is laid out so
+-- a sheet is accepted exactly if it is laid out so, in one way
 abbrev pub Sheets-decided : Type 0
-Sheets-decided = (bs : List ℕ) → At-verdict (sheet-verdict bs) (Sheet-of bs) (λ r. (d : Deal) → Sheet-of bs d → ⊥)
+Sheets-decided = (bs : List ℕ) → At-verdict (sheet-verdict bs) (λ d. Sheet-of bs d × ((e : Deal) → Sheet-of bs e → e ≡ d)) (λ r. (d : Deal) → Sheet-of bs d → ⊥)

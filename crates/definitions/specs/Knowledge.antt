@@ -124,5 +124,11 @@ abbrev pub Chains-decided : Type 0
 Chains-decided = (g : Game) (f : Frame) (w v : ℕ) → w < f .size → Decides (among (chained g f w) v) (Chain (roles g) f w v)
 
 -- after a hint a world stands exactly if it stood and the fact holds in it, and nothing else is changed
+pub record Left-by-hint (g : Game) (d : Deal) (p : ℕ) (h : Deal) : Type 0 where
+  pub size : h .deck .size ≡ d .deck .size
+  pub states : h .deck .state ≡ d .deck .state
+  pub seats : h .seats ≡ d .seats
+  pub worlds : (w : ℕ) → w < d .deck .size → Decides (h .deck .stands w) ((d .deck .stands w ≡ true) × (in-deal-holds g d p w ≡ true))
+
 abbrev pub Hint-leaves : Type 0
-Hint-leaves = (g : Game) (d : Deal) (p w : ℕ) → w < d .deck .size → Decides (hinted g d p .deck .stands w) ((d .deck .stands w ≡ true) × (in-deal-holds g d p w ≡ true))
+Hint-leaves = (g : Game) (d : Deal) (p : ℕ) → Left-by-hint g d p (hinted g d p)

@@ -1,10 +1,11 @@
 // What the answers of a referee unit mean: the definitions are in specs/. Each function here has a theorem about them for its contract.
+ghost use Rattle.definitions.specs.Deal.{Sheets-decided};
 ghost use Rattle.definitions.specs.Form.{Keywords-spelt, Values-decimal, Terms-alike};
 ghost use Rattle.definitions.specs.Holds.{Holds-standard, Standard-one, Level-local, Without-knowledge};
-ghost use Rattle.definitions.specs.Knowledge.{Chains-decided, Knowing-knows, Knowledge-one};
+ghost use Rattle.definitions.specs.Knowledge.{Chains-decided, Hint-leaves, Knowing-knows, Knowledge-one};
 ghost use Rattle.definitions.specs.Level.{Reaches-decides, Levels-least, No-levels};
 ghost use Rattle.definitions.specs.Numbering.{Names-by-first-appearance, Numbers-tell};
-ghost use Rattle.definitions.specs.Play.{Classes-tell, Classes-by-first-appearance, Books-are-plays, Plays-once, Plays-one};
+ghost use Rattle.definitions.specs.Play.{Classes-tell, Classes-by-first-appearance, Books-are-plays, Evenness-judged, Plays-once, Plays-one};
 ghost use Rattle.definitions.specs.Reading.{Decided};
 ghost use Rattle.definitions.specs.Ruleset.{Accepted-sound};
 ghost use Rattle.definitions.specs.Worked.{Worked};
@@ -79,8 +80,17 @@ pub fn play_laws() -> u8
     0
 }
 
-// Class numbers say what a role can't tell apart, by first appearance.
+// A sheet is accepted exactly if it is laid out as one; a hint leaves exactly the worlds in which its fact holds.
+pub fn deal_laws() -> u8
+    ensures sheets { λ _. ⌜ Sheets-decided ⌝ }
+    ensures hints { λ _. ⌜ Hint-leaves ⌝ }
+{
+    0
+}
+
+// Class numbers say what a role can't tell apart, by first appearance; evenness is judged by it.
 pub fn class_laws() -> u8
+    ensures even { λ _. ⌜ Evenness-judged ⌝ }
     ensures tell { λ _. ⌜ Classes-tell ⌝ }
     ensures first { λ _. ⌜ Classes-by-first-appearance ⌝ }
 {

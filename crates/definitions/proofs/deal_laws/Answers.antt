@@ -1,0 +1,6 @@
+use Rattle.definitions.proofs.Hints.{hint-leaves}
+use Rattle.definitions.proofs.Sheets.{sheets-decided}
+use Rattle.definitions.proofs.deal_laws.Needs as need
+
+pub returns : need.returns
+returns c = record { sheets = sheets-decided; hints = hint-leaves }
