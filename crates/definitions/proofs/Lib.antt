@@ -53,3 +53,8 @@ pub mod Evenness
 pub mod Noted
 pub mod Sheets
 pub mod Books
+pub mod Kept
+pub mod Plain
+pub mod Features
+pub mod Unclosed
+pub mod Either

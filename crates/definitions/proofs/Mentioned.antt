@@ -20,12 +20,12 @@ use Rattle.definitions.proofs.Verdicts.{forms-of}
 in-one : {X : Type 0} {x y : X} → In x (y ∷ []) → y ≡ x
 in-one i = elim (either-in i) [ inl e ↦ e | inr j ↦ elim j [ ] ]
 
-abbrev Within : List Mention → List Mention → Type 0
+abbrev pub Within : List Mention → List Mention → Type 0
 Within ms ns = (m : Mention) → In m ms → In m ns
 
 module _ (t : Tables) where
   -- the atom is the numbered form of one whose mentions are among ms
-  abbrev Spoken : Atom ℕ → List Mention → Type 0
+  abbrev pub Spoken : Atom ℕ → List Mention → Type 0
   Spoken a ms = (b : Atom Term) × (numbered-atom t b ≡ a) × Within (in-atom b) ms
 
   literal-spoken : (l : Literal Term) {a : Atom ℕ} → In a (named (numbered-literal t l)) → Spoken a (in-literal l)
@@ -93,7 +93,7 @@ fact-below : (fs : List Form) (p : Term) → In (a-fact p) (mentions fs) → num
 fact-below fs p i = mentioned-once (joined facts-in (mentions fs)) p (in-joined facts-in i here) .0
 
 module _ (fs : List Ruled) (x : Rule ℕ) (x-in : In x (game fs .rules)) where
-  atom-spoken : {a : Atom ℕ} → In a (joined named (body x)) → Spoken (game fs .names) a (mentions (forms-of fs))
+  pub atom-spoken : {a : Atom ℕ} → In a (joined named (body x)) → Spoken (game fs .names) a (mentions (forms-of fs))
   atom-spoken {a} i =
       let t = game fs .names in
       let (r, among, is) = map-in (numbered t) _ (subst (In x) (rules-numbered t fs) x-in) in
