@@ -6,6 +6,7 @@ ghost use Rattle.text.specs.Faults.{of-text, refusal};
 use crate::refusal::Layer;
 use crate::refusal::Refusal;
 use std::alloc::Refused;
+use std::fmt;
 
 #[derive(Clone, Copy, Debug, PartialEq)]
 pub enum TextFault {
@@ -47,5 +48,29 @@ impl TextFault {
             layer: Layer::Text,
             place,
         })
+    }
+}
+
+// Number, layer and place, and what to mend.
+pub impl fmt::Display for TextFault as TextFaultDisplay {
+    fn fmt<W: fmt::Write>(&self, f: &mut fmt::Formatter<W>) -> fmt::Result {
+        let why = match self {
+            TextFault::Memory => return f.write_str("there is not enough memory"),
+            TextFault::TooLong => "the text has more than 32768 bytes",
+            TextFault::Odd { at: _ } => "this byte may stand in a comment only",
+            TextFault::Variable { at: _ } => "a ground text has no variables",
+            TextFault::Unopened { at: _ } => "no bracket is open here",
+            TextFault::Empty { at: _ } => "these brackets have nothing in them",
+            TextFault::Unclosed { at: _ } => "this bracket is not closed",
+            TextFault::TooDeep { at: _ } => "more than eight brackets are open",
+        };
+        match self.refusal() {
+            Some(r) => {
+                let number = r.number;
+                let place = r.place;
+                write!(f, "{number} at byte {place} of the text: {why}")
+            }
+            None => f.write_str(why),
+        }
     }
 }

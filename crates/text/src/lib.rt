@@ -10,6 +10,7 @@ mod span;
 mod token;
 
 pub use fault::TextFault;
+pub use fault::TextFaultDisplay;
 pub use forms::Forms;
 pub use output::write;
 pub use refusal::Layer;

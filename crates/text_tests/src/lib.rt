@@ -5,6 +5,8 @@ mod tests {
     use std::alloc::Global;
     use std::test::*;
     use text::Forms;
+    use text::TextFault;
+    use text::TextFaultDisplay;
     use text::Token;
     use text::term_len;
     use text::write;
@@ -295,5 +297,12 @@ mod tests {
             term_len(&[Token::Open { at: 0 }, Token::Open { at: 1 }, Token::Close]),
             3,
         )
+    }
+
+    #[test]
+    fn faults_say_what_to_mend(rt: LibcRuntime) -> Result<(), Fail> {
+        let fault = TextFault::Variable { at: 5 };
+        let said = format!(rt.alloc(), "{fault}")?;
+        check(said.as_str() == "3 at byte 5 of the text: a ground text has no variables")
     }
 }
