@@ -56,5 +56,17 @@ pub mod Books
 pub mod Kept
 pub mod Plain
 pub mod Features
+pub mod Calls
 pub mod Unclosed
 pub mod Either
+pub mod Positions
+pub mod Reached
+pub mod Begun
+pub mod Exactly
+pub mod Views
+pub mod Onward
+pub mod Cuts
+pub mod Sameview
+pub mod Alone
+pub mod Twins
+pub mod Runs

@@ -130,8 +130,9 @@ Known-exactly =
     → (L : ℕ → Play → Bool) (K : ℕ → Play → List (Atom ℕ)) → Plays (t .game) (t .deal) L K
     → (r p : ℕ) → r < roles (t .game) → p < length (t .game .names .facts)
     → let now-at = end t s xs in
-    (b : Bool) → step t now-at (Call.known r p) .1 ≡ Answer.flag b
-    → Decides b ((q : Play) → L (now-at .closed) q ≡ true → alike (t .deal) r (real-play t now-at) q ≡ true → holds (t .game .rules) (before (t .game) q (K (now-at .closed) q)) (Atom.fact p) ≡ true)
+    (b : Bool)
+    × (step t now-at (Call.known r p) .1 ≡ Answer.flag b)
+    × Decides b ((q : Play) → L (now-at .closed) q ≡ true → alike (t .deal) r (real-play t now-at) q ≡ true → holds (t .game .rules) (before (t .game) q (K (now-at .closed) q)) (Atom.fact p) ≡ true)
 
 -- a match from a deal
 abbrev pub on : Game → ℕ → Deal → Table

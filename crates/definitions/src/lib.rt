@@ -3,6 +3,7 @@ ghost use Rattle.definitions.specs.Deal.{Sheets-decided};
 ghost use Rattle.definitions.specs.Form.{Keywords-spelt, Values-decimal, Terms-alike};
 ghost use Rattle.definitions.specs.Holds.{Holds-standard, Standard-one, Level-local, Without-knowledge};
 ghost use Rattle.definitions.specs.Knowledge.{Chains-decided, Hint-leaves, Knowing-knows, Knowledge-one};
+ghost use Rattle.definitions.specs.Law.{Referees};
 ghost use Rattle.definitions.specs.Level.{Reaches-decides, Levels-least, No-levels};
 ghost use Rattle.definitions.specs.Numbering.{Names-by-first-appearance, Numbers-tell};
 ghost use Rattle.definitions.specs.Play.{Classes-tell, Classes-by-first-appearance, Books-are-plays, Evenness-judged, Plays-once, Plays-one};
@@ -93,6 +94,13 @@ pub fn class_laws() -> u8
     ensures even { λ _. ⌜ Evenness-judged ⌝ }
     ensures tell { λ _. ⌜ Classes-tell ⌝ }
     ensures first { λ _. ⌜ Classes-by-first-appearance ⌝ }
+{
+    0
+}
+
+// The law over runs: a seat learns from its own play alone, knows exactly what holds in every play that it can't tell from the real one, and facts that rest on no knowledge are hinted in either order.
+pub fn run_law() -> u8
+    ensures { λ _. ⌜ Referees ⌝ }
 {
     0
 }
