@@ -11,7 +11,7 @@ use Rattle.definitions.specs.Lists.{upto}
 use Rattle.definitions.specs.Ruleset.{roles}
 use Rattle.definitions.specs.Deal.{among}
 use Rattle.definitions.specs.Play.{next-book, uneven}
-use Rattle.definitions.specs.Match.{Table, State, Answer, done, refusal, unless, refused-if, missing, knows-move, knows-role, is-some, committed, own-moves, with-commit, closed-with, after-commit, after-retract, after-close}
+use Rattle.definitions.specs.Match.{Table, State, Answer, done, refusal, unless, refused-if, missing, has-move, has-role, is-some, committed, own-moves, with-commit, closed-with, after-commit, after-retract, after-close}
 
 module _ (t : Table) (s : State) (P : State × Answer → Type 0) (stays : (a : Refusal) → P (s, refusal a)) where
   unless-both : (b : Bool) (a : Refusal) (next : State × Answer) → (b ≡ true → P next) → P (unless t b a next s)
@@ -22,14 +22,14 @@ module _ (t : Table) (s : State) (P : State × Answer → Type 0) (stays : (a : 
   refused-if-both None n next h = h refl
   refused-if-both (Some r) n next h = stays _
 
-  pub commit-cases : (r m : ℕ) → (knows-move t r m ≡ true → among (own-moves t s r) m ≡ true → P (with-commit t s r (Some m), done)) → P (after-commit t s r m)
+  pub commit-cases : (r m : ℕ) → (has-move t r m ≡ true → among (own-moves t s r) m ≡ true → P (with-commit t s r (Some m), done)) → P (after-commit t s r m)
   commit-cases r m h =
-      unless-both (knows-move t r m) _ _
+      unless-both (has-move t r m) _ _
       (λ e. unless-both (not (is-some t (committed t s r))) _ _
       (λ f. unless-both (among (own-moves t s r) m) _ _ (h e)))
 
-  pub retract-cases : (r : ℕ) → (knows-role t r ≡ true → P (with-commit t s r None, done)) → P (after-retract t s r)
-  retract-cases r h = unless-both (knows-role t r) _ _ (λ e. unless-both (is-some t (committed t s r)) _ _ (λ f. h e))
+  pub retract-cases : (r : ℕ) → (has-role t r ≡ true → P (with-commit t s r None, done)) → P (after-retract t s r)
+  retract-cases r h = unless-both (has-role t r) _ _ (λ e. unless-both (is-some t (committed t s r)) _ _ (λ f. h e))
 
   pub close-cases : (missing t s (upto (roles (t .game))) ≡ None → uneven (t .game) (t .deal) (next-book (t .game) (t .deal) (s .plays)) ≡ None → P (closed-with t s (next-book (t .game) (t .deal) (s .plays)), done)) → P (after-close t s)
   close-cases h =

@@ -8,10 +8,10 @@ use Rattle.std.specs.Orderings.{Decides}
 use Rattle.std.proofs.shelf.Ways.{decides-eqb, decides-and, decides-like}
 use Rattle.definitions.specs.Lists.{Same, joined, any, firsts}
 use Rattle.definitions.specs.Deal.{Deal}
-use Rattle.definitions.specs.Play.{Turn, Play, turns-alike, alike, nth, no-play, Classes-tell, Classes-by-first-appearance}
+use Rattle.definitions.specs.Play.{Turn, Play, turns-alike, alike, nth, no-play, Classes-tell, Classes-by-first-appearance, Classes-numbered}
 use Rattle.definitions.proofs.Deciding.{decides-never, same-by-key}
 use Rattle.definitions.proofs.Elements.{getD-in}
-use Rattle.definitions.proofs.Firsts.{like-tells, every-found, firsts-are-first}
+use Rattle.definitions.proofs.Firsts.{like-place, like-tells, every-found, firsts-are-first}
 
 -- the moves of a role and what it saw, and with its first class all that it can tell plays apart by
 abbrev pub own-turns : ℕ → List Turn → List ℕ
@@ -46,3 +46,8 @@ classes-tell d r ps i j h k = like-tells (alike d r) laws (firsts (alike d r) ps
 
 pub classes-by-first-appearance : Classes-by-first-appearance
 classes-by-first-appearance d r = firsts-are-first (alike d r) (alike-same d r)
+
+pub classes-numbered : Classes-numbered
+classes-numbered d r ps i low =
+    let found = like-place (alike d r) (firsts (alike d r) ps) (nth ps i) (every-found (alike d r) (alike-same d r) ps (nth ps i) (getD-in ps i no-play low)) in
+    (found .0, found .1 no-play)

@@ -26,6 +26,7 @@ use Rattle.definitions.proofs.Upto.{map-in}
 use Rattle.definitions.proofs.Chains.{chain-below}
 use Rattle.definitions.proofs.Knowing.{knowing-knows}
 use Rattle.definitions.proofs.Accepted.{accepted-sound}
+use Rattle.definitions.proofs.Hints.{hint-leaves}
 use Rattle.definitions.proofs.Plain.{index-place, plainly, real-stands, hinted-standing, hint-accepted, in-frame-plainly, in-deal-plainly, still-holds, second-leaves, left-shows, either-deal}
 use Rattle.definitions.proofs.Features.{accepted-features, holds-short}
 use Rattle.definitions.proofs.Unclosed.{unclosed-plays}
@@ -64,13 +65,15 @@ both-answer t (accepted s) = λ cs. refl
 both-answer t (refused r) = refl
 
 module _ (g : Game) (d : Deal) (law : Lawful d) (p q : ℕ) (q-free : rests-on-knowledge (g .rules) q ≡ false) (p-holds : in-deal-holds g d p (d .seats .real) ≡ true) (q-holds : in-deal-holds g d q (d .seats .real) ≡ true) where
-  twice-hinted : (row : ℕ) → p < length (g .names .facts) → q < length (g .names .facts) → d .deck .size ≤ row → Hinted g d p q row (hinted g (hinted g d p) q)
-  twice-hinted row p-small q-small fits =
+  twice-hinted : (p-row q-row : ℕ) → p < length (g .names .facts) → q < length (g .names .facts) → d .deck .size ≤ p-row → d .deck .size ≤ q-row → Hinted g d p q p-row q-row (hinted g (hinted g d p) q)
+  twice-hinted p-row q-row p-small q-small p-fits q-fits =
       let left : In (d .seats .real) (standing (hinted g d p)) = subst (In (d .seats .real)) (sym (hinted-standing g d p)) (in-keep (in-deal-holds g d p) (real-stands d law) p-holds) in
       record {
         one = hinted g d p;
-        first = hint-accepted g d p row p-small fits p-holds;
-        second = hint-accepted g (hinted g d p) q row q-small fits (still-holds g q q-free d p (d .seats .real) left ∙ q-holds);
+        first = hint-accepted g d p p-row p-small p-fits p-holds;
+        first-leaves = hint-leaves g d p;
+        second = hint-accepted g (hinted g d p) q q-row q-small q-fits (still-holds g q q-free d p (d .seats .real) left ∙ q-holds);
+        second-leaves = hint-leaves g (hinted g d p) q;
         left = second-leaves g d p q q-free;
       }
 
@@ -78,15 +81,15 @@ module _ (g : Game) (d : Deal) (law : Lawful d) (p q : ℕ) (q-free : rests-on-k
   real-left = subst (In (d .seats .real)) (sym (second-leaves g d p q q-free)) (in-keep (λ w. in-deal-holds g d p w && in-deal-holds g d q w) (real-stands d law) (and-from _ _ p-holds q-holds))
 
 pub either-order : Either-order
-either-order g d p q row places is law p-small q-small p-free q-free p-holds q-holds fits =
+either-order g d p q p-row q-row places is law p-small q-small p-free q-free p-holds q-holds p-fits q-fits =
     let h = hinted g (hinted g d p) q in
     let k = hinted g (hinted g d q) p in
     let real = real-left g d law p q q-free p-holds q-holds in
     let shows = left-shows g d p q q-free in (
       h,
       k,
-      twice-hinted g d law p q q-free p-holds q-holds row p-small q-small fits,
-      twice-hinted g d law q p p-free q-holds p-holds row q-small p-small fits,
+      twice-hinted g d law p q q-free p-holds q-holds p-row q-row p-small q-small p-fits q-fits,
+      twice-hinted g d law q p p-free q-holds p-holds q-row p-row q-small p-small q-fits p-fits,
       subst (λ e. Both-answer (on g places h) (on g places e) (deal-match (on g places h)) (deal-match (on g places e))) (either-deal g d p q p-free q-free) (both-answer (on g places h) (deal-match (on g places h))),
       common-first g is p p-small p-free h real (λ w i. let s = shows w i in sym (in-deal-plainly g p p-free d w (s .0)) ∙ s .1) places,
       common-first g is q q-small q-free h real (λ w i. let s = shows w i in sym (in-deal-plainly g q q-free d w (s .0)) ∙ s .2) places,

@@ -12,7 +12,7 @@ use Rattle.definitions.specs.Level.{member}
 use Rattle.definitions.specs.Holds.{holds}
 use Rattle.definitions.specs.Ruleset.{roles, Sound-game}
 use Rattle.definitions.specs.Play.{Play, nth, alike, before, knowledge, Plays, in-book, book-knowledge}
-use Rattle.definitions.specs.Match.{Table, State, Answer, asked-of, real-knowledge, real-play, knows-role, knows-fact}
+use Rattle.definitions.specs.Match.{Table, State, Answer, asked-of, real-knowledge, real-play, has-role, has-fact}
 use Rattle.definitions.specs.Law.{Known-exactly, end}
 use Rattle.definitions.proofs.Accepted.{accepted-sound}
 use Rattle.definitions.proofs.Knowing.{knowing-knows}
@@ -50,6 +50,6 @@ known-exactly t (text, e) lawful s dealt xs L K reading r p few small =
     let now-at = end t s xs in
     let reached = end-reached t s xs (dealt-reached t s lawful dealt) in (
       member (real-knowledge t now-at) (Atom.knows r p),
-      flagged t (knows-role t r && knows-fact t p) _ (and-from _ _ (lt-ltb r (roles (t .game)) few) (lt-ltb p (length (t .game .names .facts)) small)),
+      flagged t (has-role t r && has-fact t p) _ (and-from _ _ (lt-ltb r (roles (t .game)) few) (lt-ltb p (length (t .game .names .facts)) small)),
       known-decides t now-at reached (accepted-sound text (t .game) e) L K reading r p few small,
     )

@@ -19,6 +19,7 @@ pub mod Derive
 pub mod Climb
 pub mod Standard
 pub mod Local
+pub mod Judged
 pub mod Agreed
 pub mod Ranks
 pub mod Least
@@ -70,3 +71,4 @@ pub mod Sameview
 pub mod Alone
 pub mod Twins
 pub mod Runs
+pub mod Players

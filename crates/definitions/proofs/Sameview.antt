@@ -18,7 +18,7 @@ use Rattle.definitions.specs.Ruleset.{Game, roles, Sound-game}
 use Rattle.definitions.specs.Deal.{Deal}
 use Rattle.definitions.specs.Knowledge.{Frame, Chain, Knowledge}
 use Rattle.definitions.specs.Play.{Turn, Play, turns-alike, alike, nth, frame, knowledge, after, is-player, book, uneven, Even}
-use Rattle.definitions.specs.Match.{Table, State, Answer, flag, asked-of, knows-role, knows-fact, real-knowledge, real-play}
+use Rattle.definitions.specs.Match.{Table, State, Answer, flag, asked-of, has-role, has-fact, real-knowledge, real-play}
 use Rattle.definitions.proofs.Knowing.{knowing-knows}
 use Rattle.definitions.proofs.Classes.{alike-same}
 use Rattle.definitions.proofs.Evenness.{evenness-judged}
@@ -73,11 +73,11 @@ module _ (t : Table) (sound : Sound-game (t .game)) (r : ℕ) (few : r < roles (
       moves = even-for (t .game) (t .deal) (s .plays) (h .even) r few player (s .real) j (h .low) below same
 
       knows : view t r s .knows ≡ view t r (with-real s j) .knows
-      knows = fun-ext λ p. asked-same t (knows-role t r && knows-fact t p) (flag (member (real-knowledge t s) (Atom.knows r p))) (flag (member (real-knowledge t (with-real s j)) (Atom.knows r p)))
-          (λ e. ap flag (known-same (t .game) sound (t .deal) (s .plays) r (s .real) j few (h .low) below same p (ltb-true p (length (t .game .names .facts)) (and-parts (knows-role t r) (knows-fact t p) e .1))))
+      knows = fun-ext λ p. asked-same t (has-role t r && has-fact t p) (flag (member (real-knowledge t s) (Atom.knows r p))) (flag (member (real-knowledge t (with-real s j)) (Atom.knows r p)))
+          (λ e. ap flag (known-same (t .game) sound (t .deal) (s .plays) r (s .real) j few (h .low) below same p (ltb-true p (length (t .game .names .facts)) (and-parts (has-role t r) (has-fact t p) e .1))))
 
       common : view t r s .common ≡ view t r (with-real s j) .common
-      common = fun-ext λ p. asked-same t (knows-fact t p) (flag (member (real-knowledge t s) (Atom.common p))) (flag (member (real-knowledge t (with-real s j)) (Atom.common p)))
+      common = fun-ext λ p. asked-same t (has-fact t p) (flag (member (real-knowledge t s) (Atom.common p))) (flag (member (real-knowledge t (with-real s j)) (Atom.common p)))
           (λ e. ap flag (common-same (t .game) sound (t .deal) (s .plays) r (s .real) j few (h .low) below same p (ltb-true p (length (t .game .names .facts)) e)))
 
   pub view-same : (s v : State) → Reached t s → Reached t v → s .closed ≡ v .closed → alike (t .deal) r (real-play t s) (real-play t v) ≡ true → view t r s ≡ view t r v

@@ -13,7 +13,7 @@ use Rattle.definitions.specs.Lists.{upto}
 use Rattle.definitions.specs.Level.{member}
 use Rattle.definitions.specs.Deal.{among, state-where}
 use Rattle.definitions.specs.Knowledge.{in-match}
-use Rattle.definitions.specs.Match.{Table, State, Call, commit, retract, close, tell, moves, known, common, rounds, holds, terminal, goal, plays, Answer, done, bits, flag, count, refusal, real-knowledge, own-moves, committed, with-commit, knows-role, knows-move, knows-fact, is-some, unless, asked-of, after-commit, after-retract, step}
+use Rattle.definitions.specs.Match.{Table, State, Call, commit, retract, close, tell, moves, known, common, rounds, holds, terminal, goal, plays, Answer, done, bits, flag, count, refusal, real-knowledge, own-moves, committed, with-commit, has-role, has-move, has-fact, is-some, unless, asked-of, after-commit, after-retract, step}
 use Rattle.definitions.specs.Law.{Seat-call}
 
 pub record View : Type 0 where
@@ -26,8 +26,8 @@ module _ (t : Table) (r : ℕ) where
   abbrev pub view : State → View
   view s = record {
     moves = own-moves t s r;
-    knows = λ p. asked-of t (knows-role t r && knows-fact t p) (flag (member (real-knowledge t s) (Atom.knows r p)));
-    common = λ p. asked-of t (knows-fact t p) (flag (member (real-knowledge t s) (Atom.common p)));
+    knows = λ p. asked-of t (has-role t r && has-fact t p) (flag (member (real-knowledge t s) (Atom.knows r p)));
+    common = λ p. asked-of t (has-fact t p) (flag (member (real-knowledge t s) (Atom.common p)));
     closed = s .closed;
   }
 
@@ -38,13 +38,13 @@ module _ (t : Table) (r : ℕ) where
   -- the seat's commit after a call of its own, and the answer
   abbrev pub reply : View → Option ℕ → Call → Option ℕ × Answer
   reply V o (commit q m) =
-      check (knows-move t r m) (in-match 14 0)
+      check (has-move t r m) (in-match 14 0)
       (check (not (is-some t o)) (in-match 15 0)
       (check (among (V .moves) m) (in-match 16 0) (Some m, done) o) o) o
-  reply V o (retract q) = check (knows-role t r) (in-match 14 0) (check (is-some t o) (in-match 17 0) (None, done) o) o
+  reply V o (retract q) = check (has-role t r) (in-match 14 0) (check (is-some t o) (in-match 17 0) (None, done) o) o
   reply V o close = (o, done)
   reply V o tell = (o, done)
-  reply V o (moves q) = (o, asked-of t (knows-role t r) (bits (state-where (among (V .moves)) (upto 32))))
+  reply V o (moves q) = (o, asked-of t (has-role t r) (bits (state-where (among (V .moves)) (upto 32))))
   reply V o (known q p) = (o, V .knows p)
   reply V o (common p) = (o, V .common p)
   reply V o rounds = (o, count (V .closed))
@@ -74,10 +74,10 @@ module _ (t : Table) (r : ℕ) where
     own-with o i = (getD-set-same (s .commits) r o None few i, done)
 
     own-commit : (m : ℕ) → own-of (after-commit t s r m) ≡ reply (view s) (committed t s r) (commit r m)
-    own-commit m = own-unless s (knows-move t r m) _ _ _ (own-unless s (not (is-some t (committed t s r))) _ _ _ (own-unless s (among (own-moves t s r) m) _ _ _ (own-with (Some m))))
+    own-commit m = own-unless s (has-move t r m) _ _ _ (own-unless s (not (is-some t (committed t s r))) _ _ _ (own-unless s (among (own-moves t s r) m) _ _ _ (own-with (Some m))))
 
     own-retract : own-of (after-retract t s r) ≡ reply (view s) (committed t s r) (retract r)
-    own-retract = own-unless s (knows-role t r) _ _ _ (own-unless s (is-some t (committed t s r)) _ _ _ (own-with None))
+    own-retract = own-unless s (has-role t r) _ _ _ (own-unless s (is-some t (committed t s r)) _ _ _ (own-with None))
 
     pub own-reply : (c : Call) → Seat-call r c → own-of (step t s c) ≡ reply (view s) (committed t s r) c
     own-reply (commit q m) e = subst (λ k. own-of (after-commit t s k m) ≡ reply (view s) (committed t s r) (commit k m)) (sym e) (own-commit m)

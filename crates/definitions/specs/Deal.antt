@@ -15,7 +15,7 @@ use Rattle.std.specs.declared.option.Option.{Option}
 use Rattle.std.specs.declared.option.Option.the-variants.{Some, None}
 use Rattle.definitions.specs.Refusal.{Refusal, deal-layer, Verdict, accepted, refused, At-verdict}
 use Rattle.definitions.specs.Lists.{joined, keep, upto}
-use Rattle.definitions.specs.Ruleset.{Game, then}
+use Rattle.definitions.specs.Ruleset.{Game, then, game-verdict}
 
 -- a world's state has bit f for feature f
 pub record Deck : Type 0 where
@@ -158,3 +158,9 @@ pub record Sheet-of (bs : List ℕ) (d : Deal) : Type 0 where
 -- a sheet is accepted exactly if it is laid out so, in one way
 abbrev pub Sheets-decided : Type 0
 Sheets-decided = (bs : List ℕ) → At-verdict (sheet-verdict bs) (λ d. Sheet-of bs d × ((e : Deal) → Sheet-of bs e → e ≡ d)) (λ r. (d : Deal) → Sheet-of bs d → ⊥)
+
+-- the deals that are made keep to what every deal keeps to
+abbrev pub Made-lawful : Type 0
+Made-lawful =
+    ((text : List ℕ) (g : Game) → game-verdict text ≡ accepted g → Lawful (opening g))
+    × ((bs : List ℕ) (d : Deal) → ((i : ℕ) → getD bs i 0 < 256) → sheet-verdict bs ≡ accepted d → Lawful d)

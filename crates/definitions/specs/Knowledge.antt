@@ -3,13 +3,14 @@
 --     Chain          steps of the roles, one after another
 --     Knowledge      a knows atom is in a world's set exactly if its fact holds where it must
 --     knowing        the function that computes it, by rising level
---     hint           the deal that is left when a fact is announced
+--     hinted         the deal that is left when a fact is announced
+--     hint-verdict, row-after    what a hint is refused with, and its work row afterwards
 use Prim.Native.Nat.{ℕ, suc, _<_}
 use mathlib.Core.Path.{_≡_}
 use mathlib.Core.Bool.{Bool, true, false, cond, not, _&&_, _||_}
 use mathlib.Core.List.{List, [], _∷_, _++_, map}
-use lib.Dec.{eqb, ltb}
-use lib.ListN.{length, getD}
+use lib.Dec.{eqb, ltb, leb}
+use lib.ListN.{length, getD, drop, replicate}
 use Rattle.std.specs.declared.option.Option.the-variants.{None}
 use Rattle.std.specs.Orderings.{Decides}
 use Rattle.definitions.specs.Refusal.{Refusal, match-layer, Verdict, accepted, refused}
@@ -18,7 +19,7 @@ use Rattle.definitions.specs.Lists.{joined, keep, all, any, upto, repeat}
 use Rattle.definitions.specs.Level.{member, highest}
 use Rattle.definitions.specs.Holds.{Position, holds}
 use Rattle.definitions.specs.Ruleset.{Game, roles, Sound-game}
-use Rattle.definitions.specs.Deal.{Deal, Deck, Seats, standing, among, in-deal}
+use Rattle.definitions.specs.Deal.{Deal, Deck, Seats, Lawful, standing, among, in-deal}
 
 -- worlds are numbered from 0 to below the size
 pub record Frame : Type 0 where
@@ -108,6 +109,10 @@ hint-verdict g d p row =
     (cond (ltb row (d .deck .size)) (refused (in-deal 22 0))
     (cond (in-deal-holds g d p (d .seats .real)) (accepted (hinted g d p)) (refused (in-deal 21 0))))
 
+-- the work row after the making of a hint: untouched if the fact or the row's length is refused, else zero in its first numbers, one for each world, and as it was past them
+abbrev pub row-after : Game → Deal → ℕ → List ℕ → List ℕ
+row-after g d p row = cond (ltb p (length (g .names .facts)) && leb (d .deck .size) (length row)) (replicate (d .deck .size) 0 ++ drop (d .deck .size) row) row
+
 -- what is computed is the knowledge in a frame, and there is one only
 abbrev pub Knowing-knows : Type 0
 Knowing-knows = (g : Game) (f : Frame) → Sound-game g → Knowledge g f (λ w. getD (knowing g f) w [])
@@ -132,3 +137,7 @@ pub record Left-by-hint (g : Game) (d : Deal) (p : ℕ) (h : Deal) : Type 0 wher
 
 abbrev pub Hint-leaves : Type 0
 Hint-leaves = (g : Game) (d : Deal) (p : ℕ) → Left-by-hint g d p (hinted g d p)
+
+-- a hint over a lawful deal is lawful
+abbrev pub Hints-lawful : Type 0
+Hints-lawful = (g : Game) (d h : Deal) (p row : ℕ) → Lawful d → hint-verdict g d p row ≡ accepted h → Lawful h

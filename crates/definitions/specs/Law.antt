@@ -20,9 +20,9 @@ use Rattle.definitions.specs.Level.{rests-on-knowledge}
 use Rattle.definitions.specs.Holds.{holds}
 use Rattle.definitions.specs.Ruleset.{Game, game-verdict, roles}
 use Rattle.definitions.specs.Deal.{Deal, Lawful, standing}
-use Rattle.definitions.specs.Knowledge.{in-deal-holds, hint-verdict}
+use Rattle.definitions.specs.Knowledge.{in-deal-holds, hint-verdict, Left-by-hint}
 use Rattle.definitions.specs.Play.{Turn, Play, alike, before, is-player, Plays}
-use Rattle.definitions.specs.Match.{Table, State, Call, Answer, step, run, real-play, deal-match}
+use Rattle.definitions.specs.Match.{Table, State, Call, Answer, step, run, chosen, real-play, deal-match}
 
 -- games that a text gives
 abbrev pub Is-game : Game → Type 0
@@ -103,6 +103,41 @@ calls-of r n es = map (λ e. call (e .request)) (events-of r n es)
 abbrev pub answers-of : ℕ → ℕ → List Event → List Answer
 answers-of r n es = map (λ e. e .answer) (events-of r n es)
 
+-- the joint moves that were committed when rounds were closed
+abbrev pub is-close : Call → Bool
+is-close (Call.commit q m) = false
+is-close (Call.retract q) = false
+is-close Call.close = true
+is-close Call.tell = false
+is-close (Call.moves q) = false
+is-close (Call.known q p) = false
+is-close (Call.common p) = false
+is-close Call.rounds = false
+is-close (Call.holds p) = false
+is-close Call.terminal = false
+is-close (Call.goal q) = false
+is-close Call.plays = false
+
+abbrev pub is-done : Answer → Bool
+is-done Answer.done = true
+is-done (Answer.row ns) = false
+is-done (Answer.bits b) = false
+is-done (Answer.flag b) = false
+is-done (Answer.count m) = false
+is-done (Answer.value v) = false
+is-done (Answer.refusal r) = false
+
+abbrev pub closing-moves : Table → List Event → List (List ℕ)
+closing-moves t es = map (λ e. chosen t (e .met)) (keep (λ e. is-close (call (e .request)) && is-done (e .answer)) es)
+
+-- the real play has the real world and the moves committed at each accepted close
+abbrev pub Real-as-committed : Type 0
+Real-as-committed =
+    (t : Table) → Is-game (t .game) → Lawful (t .deal) → (s : State) → deal-match t ≡ accepted s → (xs : List Request)
+    → (real-play t (end t s xs) .world ≡ t .deal .seats .real)
+    × (map (λ u. u .moves) (real-play t (end t s xs) .turns) ≡ closing-moves t (trace t s xs))
+    × (end t s xs .closed ≡ length (closing-moves t (trace t s xs)))
+
 -- what a role saw in a round of the real play
 abbrev pub saw : Table → State → ℕ → ℕ → ℕ
 saw t s r n = getD (getD (real-play t s .turns) n (record { moves = []; seen = [] }) .seen) r 0
@@ -150,21 +185,23 @@ abbrev pub Common-first : Table → ℕ → Verdict State → Type 0
 Common-first t p (accepted s) = (xs : List Request) → end t s xs .closed ≡ 0 → step t (end t s xs) (Call.common p) .1 ≡ Answer.flag true
 Common-first t p (refused q) = Unit {0}
 
--- the worlds that stand after two hints are those that stood and in which both facts hold
-pub record Hinted (g : Game) (d : Deal) (p q row : ℕ) (h : Deal) : Type 0 where
+-- h is left when p is hinted over d and then q over what that leaves, with a work row for each
+pub record Hinted (g : Game) (d : Deal) (p q p-row q-row : ℕ) (h : Deal) : Type 0 where
   pub one : Deal
-  pub first : hint-verdict g d p row ≡ accepted one
-  pub second : hint-verdict g one q row ≡ accepted h
+  pub first : hint-verdict g d p p-row ≡ accepted one
+  pub first-leaves : Left-by-hint g d p one
+  pub second : hint-verdict g one q q-row ≡ accepted h
+  pub second-leaves : Left-by-hint g one q h
   pub left : standing h ≡ keep (λ w. in-deal-holds g d p w && in-deal-holds g d q w) (standing d)
 
 abbrev pub Either-order : Type 0
 Either-order =
-    (g : Game) (d : Deal) (p q row places : ℕ) → Is-game g → Lawful d
+    (g : Game) (d : Deal) (p q p-row q-row places : ℕ) → Is-game g → Lawful d
     → p < length (g .names .facts) → q < length (g .names .facts)
     → rests-on-knowledge (g .rules) p ≡ false → rests-on-knowledge (g .rules) q ≡ false
     → in-deal-holds g d p (d .seats .real) ≡ true → in-deal-holds g d q (d .seats .real) ≡ true
-    → d .deck .size ≤ row
-    → (h k : Deal) × Hinted g d p q row h × Hinted g d q p row k
+    → d .deck .size ≤ p-row → d .deck .size ≤ q-row
+    → (h k : Deal) × Hinted g d p q p-row q-row h × Hinted g d q p q-row p-row k
     × Both-answer (on g places h) (on g places k) (deal-match (on g places h)) (deal-match (on g places k))
     × Common-first (on g places h) p (deal-match (on g places h))
     × Common-first (on g places h) q (deal-match (on g places h))

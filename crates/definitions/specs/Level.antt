@@ -6,6 +6,7 @@
 --     rests-on-knowledge    a fact depends on a knows atom
 use Prim.Native.Nat.{ℕ, zero, suc, _≤_, _<_, max}
 use mathlib.Core.Path.{_≡_}
+use mathlib.Core.Logic.{_⊎_}
 use mathlib.Core.Bool.{Bool, true, false, cond, _&&_, _||_}
 use mathlib.Core.List.{List, [], _∷_, _++_}
 use lib.Dec.{eqb, ltb}
@@ -184,3 +185,17 @@ Levels-least = (rules : List (Rule ℕ)) → any (comes-back rules) rules ≡ fa
 
 abbrev pub No-levels : Type 0
 No-levels = (rules : List (Rule ℕ)) → any (comes-back rules) rules ≡ true → (l : Atom ℕ → ℕ) → Respects l rules → ⊥
+
+-- a rule comes back if something that it uses strictly is, or depends on, its head
+abbrev pub Coming-back-decided : Type 0
+Coming-back-decided = (rules : List (Rule ℕ)) (r : Rule ℕ) → Decides (comes-back rules r) ((a : Atom ℕ) × In a (strict-uses r) × ((a ≡ r .head) ⊎ Depends rules a (r .head)))
+
+-- a fact rests on knowledge if it depends on a knows atom
+abbrev pub Resting-decided : Type 0
+Resting-decided = (rules : List (Rule ℕ)) (p : ℕ) → Decides (rests-on-knowledge rules p) ((a : Atom ℕ) × Depends rules (Atom.fact p) a × (is-knows a ≡ true))
+
+-- a rule looks ahead if its head is decided before moves and its body has, or depends on, a move that is made
+abbrev pub Looking-ahead-decided : Type 0
+Looking-ahead-decided =
+    (rules : List (Rule ℕ)) (r : Rule ℕ)
+    → Decides (looks-ahead rules r) ((before-moves rules (r .head) ≡ true) × ((a : Atom ℕ) × In a (uses r) × ((is-does a ≡ true) ⊎ ((b : Atom ℕ) × Depends rules a b × (is-does b ≡ true)))))

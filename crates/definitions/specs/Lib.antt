@@ -13,6 +13,6 @@ pub mod Deal
 pub mod Knowledge
 pub mod Play
 pub mod Match
-pub mod Session
 pub mod Law
+pub mod Session
 pub mod Worked

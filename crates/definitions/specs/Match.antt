@@ -3,7 +3,7 @@
 --     State            where it stands: the round's book, the real play, the commits, whether the last round is untold
 --     Call, Answer     what a seat or the host may call, and what comes back
 --     step             the state after a call and its answer
---     Row, book-rows   what the book holds after a call
+--     Row, books       what book and spare book hold after a deal or a call
 --     deal-match       the state in which a match begins
 use Prim.Native.Nat.{ℕ, zero, suc, _+_, min}
 use mathlib.Core.Bool.{Bool, true, false, cond, not, _&&_, _||_}
@@ -91,14 +91,14 @@ module _ (t : Table) where
   abbrev pub own-moves : State → ℕ → List ℕ
   own-moves s r = legal-moves g (real-play s) (real-knowledge s) r
 
-  abbrev pub knows-role : ℕ → Bool
-  knows-role r = ltb r (roles g)
+  abbrev pub has-role : ℕ → Bool
+  has-role r = ltb r (roles g)
 
-  abbrev pub knows-move : ℕ → ℕ → Bool
-  knows-move r m = knows-role r && ltb m (length (getD (g .names .moves) r []))
+  abbrev pub has-move : ℕ → ℕ → Bool
+  has-move r m = has-role r && ltb m (length (getD (g .names .moves) r []))
 
-  abbrev pub knows-fact : ℕ → Bool
-  knows-fact p = ltb p (length (g .names .facts))
+  abbrev pub has-fact : ℕ → Bool
+  has-fact p = ltb p (length (g .names .facts))
 
   abbrev pub with-commit : State → ℕ → Option ℕ → State
   with-commit s r c = record { closed = s .closed; plays = s .plays; real = s .real; commits = set (s .commits) r c; untold = s .untold }
@@ -117,14 +117,14 @@ module _ (t : Table) where
 
   abbrev pub after-commit : State → ℕ → ℕ → State × Answer
   after-commit s r m =
-      unless (knows-move r m) (in-match 14 0)
+      unless (has-move r m) (in-match 14 0)
       (unless (not (is-some (committed s r))) (in-match 15 0)
       (unless (among (own-moves s r) m) (in-match 16 0)
       (with-commit s r (Some m), done) s) s) s
 
   abbrev pub after-retract : State → ℕ → State × Answer
   after-retract s r =
-      unless (knows-role r) (in-match 14 0)
+      unless (has-role r) (in-match 14 0)
       (unless (is-some (committed s r)) (in-match 17 0)
       (with-commit s r None, done) s) s
 
@@ -193,13 +193,13 @@ module _ (t : Table) where
   step s (retract r) = after-retract s r
   step s close = after-close s
   step s tell = (all-told s, row (told s))
-  step s (moves r) = (s, asked-of (knows-role r) (bits (let ms = own-moves s r in state-where (among ms) (upto 32))))
-  step s (known r p) = (s, asked-of (knows-role r && knows-fact p) (flag (member (real-knowledge s) (Atom.knows r p))))
-  step s (common p) = (s, asked-of (knows-fact p) (flag (member (real-knowledge s) (Atom.common p))))
+  step s (moves r) = (s, asked-of (has-role r) (bits (let ms = own-moves s r in state-where (among ms) (upto 32))))
+  step s (known r p) = (s, asked-of (has-role r && has-fact p) (flag (member (real-knowledge s) (Atom.knows r p))))
+  step s (common p) = (s, asked-of (has-fact p) (flag (member (real-knowledge s) (Atom.common p))))
   step s rounds = (s, count (s .closed))
-  step s (holds p) = (s, asked-of (knows-fact p) (flag (really s (Atom.fact p))))
+  step s (holds p) = (s, asked-of (has-fact p) (flag (really s (Atom.fact p))))
   step s terminal = (s, flag (really s Atom.terminal))
-  step s (goal r) = (s, asked-of (knows-role r) (goal-answer (goal-values s r)))
+  step s (goal r) = (s, asked-of (has-role r) (goal-answer (goal-values s r)))
   step s plays = (s, count (length (s .plays)))
 
   -- what the book holds, a row for each place: the plays' states and classes, and zeros past them; the spare book holds zeros alone
@@ -211,6 +211,11 @@ module _ (t : Table) where
 
   abbrev pub book-rows : State → ℕ → List Row
   book-rows s n = map (λ i. cond (ltb i (length (s .plays))) (book-row s i) zero-row) (upto n)
+
+  -- a book and a spare book of the given lengths, after a deal or a call: a refused deal leaves both zero, and a refused call leaves the state and so the book
+  abbrev pub books : Verdict State → ℕ → ℕ → List Row × List Row
+  books (accepted s) n m = (book-rows s n, replicate m zero-row)
+  books (refused r) n m = (replicate n zero-row, replicate m zero-row)
 
   abbrev pub run : State → List Call → List Answer
   run s [] = []

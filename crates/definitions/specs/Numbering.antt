@@ -1,7 +1,7 @@
 -- Roles, features, moves, percepts and facts are numbered from 0 by first appearance, and counted.
 --     Mention, mentions    what the forms speak of, in reading order
 --     Tables, tables       the names under their numbers
---     Counted              nothing is more than its most
+--     counted              nothing is more than its most
 --     numbered             a rule over numbers
 use Prim.Native.Nat.{ℕ}
 use mathlib.Core.Path.{_≡_}

@@ -215,3 +215,13 @@ Evenness-judged =
     → Cases (uneven g d ps)
     ((r : ℕ) → r < roles g → is-player g r ≡ true → Even g d ps r)
     (λ r. (r < roles g) × (is-player g r ≡ true) × (Even g d ps r → ⊥) × ((q : ℕ) → q < r → is-player g q ≡ true → Even g d ps q))
+
+-- the players are the roles of the rules but `random`
+abbrev pub Players-decided : Type 0
+Players-decided = (g : Game) (r : ℕ) → Decides (is-player g r) ((r < roles g) × (getD (g .names .roles) r nature ≡ nature → ⊥))
+
+-- a class number is a place among the first plays of each class, and the play there is alike
+abbrev pub Classes-numbered : Type 0
+Classes-numbered =
+    (d : Deal) (r : ℕ) (ps : List Play) (i : ℕ) → i < length ps
+    → (class-number d r ps i < length (firsts (alike d r) ps)) × (alike d r (getD (firsts (alike d r) ps) (class-number d r ps i) no-play) (nth ps i) ≡ true)

@@ -108,7 +108,7 @@ some-role end fs = elim (declared (map (λ r. r .form) fs)) [ [] ↦ refused (in
 abbrev pub game-verdict : List ℕ → Verdict Game
 game-verdict text = then (verdict text) (λ ts. then (forms-verdict [] ts) (some-role (length text)))
 
--- what an accepted game keeps to: counts within their bounds, levels that fit, knows atoms over its own roles and facts, and nothing decided too early by a joint move
+-- what an accepted game keeps to: roles, features, moves, percepts, goal and knows atoms, facts and rules within their bounds, levels that fit, knows atoms over its own roles and facts, and nothing decided too early by a joint move
 pub record Sound-game (g : Game) : Type 0 where
   pub some-role : 0 < roles g
   pub few-roles : roles g ≤ 8

@@ -1,5 +1,5 @@
 -- A session: records of bytes, served one after another, and the lines that are printed.
---     Request, request      a record, by its kind byte and body
+--     body-length, call-of  a record's body by its letter, and the call that it makes
 --     line                  the line of a record
 --     session               the lines of a session, from a game's text and the bytes that come in
 use Prim.Native.Nat.{ℕ, zero, suc, _+_, _*_}
@@ -15,6 +15,7 @@ use Rattle.definitions.specs.Refusal.{Refusal, Verdict, accepted, refused}
 use Rattle.definitions.specs.Ruleset.{Game, roles, game-verdict}
 use Rattle.definitions.specs.Deal.{opening}
 use Rattle.definitions.specs.Knowledge.{in-match}
+use Rattle.definitions.specs.Law.{is-done}
 use Rattle.definitions.specs.Match.{Table, State, Call, Answer, step, deal-match}
 
 -- the letters of records: commit, retract, close with tell, known, common, holds, moves, terminal, goal
@@ -70,15 +71,6 @@ abbrev pub fault-line : Refusal → List ℕ
 fault-line r = codes "! " ++ (decimal (r .number) ++ (32 ∷ (decimal (r .place) ++ 10 ∷ [])))
 
 -- a close that is accepted is told at once, and what is told is shown
-abbrev pub is-done : Answer → Bool
-is-done Answer.done = true
-is-done (Answer.row ns) = false
-is-done (Answer.bits b) = false
-is-done (Answer.flag b) = false
-is-done (Answer.count m) = false
-is-done (Answer.value v) = false
-is-done (Answer.refusal r) = false
-
 abbrev pub told-after : Table → State × Answer → State × Answer
 told-after t r = elim (is-done (r .1)) [ true ↦ step t (r .0) Call.tell | false ↦ r ]
 

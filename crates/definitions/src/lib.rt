@@ -4,9 +4,9 @@ ghost use Rattle.definitions.specs.Form.{Keywords-spelt, Values-decimal, Terms
 ghost use Rattle.definitions.specs.Holds.{Holds-standard, Standard-one, Level-local, Without-knowledge};
 ghost use Rattle.definitions.specs.Knowledge.{Chains-decided, Hint-leaves, Knowing-knows, Knowledge-one};
 ghost use Rattle.definitions.specs.Law.{Referees};
-ghost use Rattle.definitions.specs.Level.{Reaches-decides, Levels-least, No-levels};
+ghost use Rattle.definitions.specs.Level.{Coming-back-decided, Looking-ahead-decided, Reaches-decides, Resting-decided, Levels-least, No-levels};
 ghost use Rattle.definitions.specs.Numbering.{Names-by-first-appearance, Numbers-tell};
-ghost use Rattle.definitions.specs.Play.{Classes-tell, Classes-by-first-appearance, Books-are-plays, Evenness-judged, Plays-once, Plays-one};
+ghost use Rattle.definitions.specs.Play.{Classes-tell, Classes-by-first-appearance, Classes-numbered, Players-decided, Books-are-plays, Evenness-judged, Plays-once, Plays-one};
 ghost use Rattle.definitions.specs.Reading.{Decided};
 ghost use Rattle.definitions.specs.Ruleset.{Accepted-sound};
 ghost use Rattle.definitions.specs.Worked.{Worked};
@@ -42,6 +42,9 @@ pub fn level_laws() -> u8
     ensures dependence { λ _. ⌜ Reaches-decides ⌝ }
     ensures least { λ _. ⌜ Levels-least ⌝ }
     ensures refused { λ _. ⌜ No-levels ⌝ }
+    ensures back { λ _. ⌜ Coming-back-decided ⌝ }
+    ensures ahead { λ _. ⌜ Looking-ahead-decided ⌝ }
+    ensures resting { λ _. ⌜ Resting-decided ⌝ }
 {
     0
 }
@@ -81,7 +84,7 @@ pub fn play_laws() -> u8
     0
 }
 
-// A sheet is accepted exactly if it is laid out as one; a hint leaves exactly the worlds in which its fact holds.
+// A sheet is accepted exactly if it is laid out as one; a hint leaves exactly the worlds that stood and in which its fact holds.
 pub fn deal_laws() -> u8
     ensures sheets { λ _. ⌜ Sheets-decided ⌝ }
     ensures hints { λ _. ⌜ Hint-leaves ⌝ }
@@ -89,9 +92,11 @@ pub fn deal_laws() -> u8
     0
 }
 
-// Class numbers say what a role can't tell apart, by first appearance; evenness is judged by it.
+// Class numbers say what a role can't tell apart, by first appearance; evenness is judged for the players.
 pub fn class_laws() -> u8
     ensures even { λ _. ⌜ Evenness-judged ⌝ }
+    ensures players { λ _. ⌜ Players-decided ⌝ }
+    ensures numbered { λ _. ⌜ Classes-numbered ⌝ }
     ensures tell { λ _. ⌜ Classes-tell ⌝ }
     ensures first { λ _. ⌜ Classes-by-first-appearance ⌝ }
 {
