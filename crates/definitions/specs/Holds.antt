@@ -58,6 +58,7 @@ literal-holds S (negated a) = not (S a)
 abbrev pub fires : Atoms → Rule ℕ → Bool
 fires S r = all (any (literal-holds S)) (r .parts)
 
+-- every atom of one set is in the other
 abbrev pub Includes : Atoms → Atoms → Type 0
 Includes G S = (a : Atom ℕ) → G a ≡ true → S a ≡ true
 
@@ -65,6 +66,7 @@ Includes G S = (a : Atom ℕ) → G a ≡ true → S a ≡ true
 abbrev pub ClosedAt : (Atom ℕ → ℕ) → List (Rule ℕ) → ℕ → Atoms → Type 0
 ClosedAt level rules k S = (r : Rule ℕ) → In r rules → level (r .head) ≡ k → fires S r ≡ true → S (r .head) ≡ true
 
+-- two sets have the same atoms of levels below k
 abbrev pub SameBelow : (Atom ℕ → ℕ) → ℕ → Atoms → Atoms → Type 0
 SameBelow level k S X = (a : Atom ℕ) → level a < k → S a ≡ X a
 
@@ -73,6 +75,7 @@ pub record Standard (level : Atom ℕ → ℕ) (rules : List (Rule ℕ)) (G S : 
   pub closed : (k : ℕ) → ClosedAt level rules k S
   pub least : (k : ℕ) (X : Atoms) → SameBelow level k S X → Includes G X → ClosedAt level rules k X → (a : Atom ℕ) → level a ≡ k → S a ≡ true → X a ≡ true
 
+-- what is given, and what has been derived
 abbrev pub with-derived : Atoms → List (Atom ℕ) → Atoms
 with-derived G set a = G a || member set a
 

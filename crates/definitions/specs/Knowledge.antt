@@ -49,6 +49,7 @@ module _ (g : Game) (f : Frame) where
       keep (λ p. now-true (Atom.fact p)) (upto (length (g .names .facts))))
       (upto (f .size))
 
+  -- some role can't tell two worlds apart
   abbrev pub linked : ℕ → ℕ → Bool
   linked v u = any (λ r. f .alike r v u) (upto (roles g))
 
@@ -59,9 +60,11 @@ module _ (g : Game) (f : Frame) where
   abbrev pub chained : ℕ → List ℕ
   chained w = repeat (f .size) onward (w ∷ [])
 
+  -- a fact is among the truths of a world
   abbrev pub true-in : List (List ℕ) → ℕ → ℕ → Bool
   true-in ts p v = among (getD ts v []) p
 
+  -- the knows atoms that hold in a world, by the truths of all worlds
   abbrev pub known-in : List (List ℕ) → ℕ → List (Atom ℕ)
   known-in ts w =
       let reached = chained w in

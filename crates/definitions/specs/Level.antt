@@ -89,6 +89,7 @@ abbrev pub with-all : List (Atom ℕ) → List (Atom ℕ) → List (Atom ℕ)
 with-all [] set = set
 with-all (a ∷ more) set = with-all more (cond (member set a) set (a ∷ set))
 
+-- a set of atoms with what the rules of its members use
 abbrev pub widen : List (Rule ℕ) → List (Atom ℕ) → List (Atom ℕ)
 widen [] set = set
 widen (r ∷ rs) set = widen rs (cond (member set (r .head)) (with-all (uses r) set) set)
@@ -138,6 +139,7 @@ level-in (l ∷ ls) a = cond (same-atom (l .0) a) (l .1) (level-in ls a)
 abbrev pub asked : List (Atom ℕ × ℕ) → Rule ℕ → ℕ
 asked ls r = max (most (level-in ls) (uses r)) (most (λ a. suc (level-in ls a)) (strict-uses r))
 
+-- each head raised to what its rules ask
 abbrev pub raise : List (Rule ℕ) → List (Atom ℕ × ℕ) → List (Atom ℕ × ℕ)
 raise [] ls = ls
 raise (r ∷ rs) ls = raise rs (cond (ltb (level-in ls (r .head)) (asked ls r)) ((r .head, asked ls r) ∷ ls) ls)
@@ -173,6 +175,7 @@ before-moves rules (Atom.fact p) = member (known-facts rules) (Atom.fact p)
 before-moves rules (Atom.next f) = false
 before-moves rules (Atom.sees r e) = false
 
+-- such a head with a rule that has, or depends on, a move that is made
 abbrev pub looks-ahead : List (Rule ℕ) → Rule ℕ → Bool
 looks-ahead rules r = before-moves rules (r .head) && any (λ a. is-does a || any is-does (below rules a)) (uses r)
 

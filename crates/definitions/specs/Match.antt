@@ -85,6 +85,7 @@ module _ (t : Table) where
   abbrev pub real-play : State → Play
   real-play s = nth (s .plays) (s .real)
 
+  -- what holds in the real play
   abbrev pub really : State → Atom ℕ → Bool
   really s = model (g .rules) (before g (real-play s) (real-knowledge s))
 
@@ -133,6 +134,7 @@ module _ (t : Table) where
   missing s [] = None
   missing s (r ∷ rs) = elim (committed s r) [ None ↦ Some r | Some m ↦ missing s rs ]
 
+  -- the committed joint move
   abbrev pub chosen : State → List ℕ
   chosen s = map (λ r. elim (committed s r) [ None ↦ 0 | Some m ↦ m ]) (upto (roles g))
 
@@ -150,6 +152,7 @@ module _ (t : Table) where
   abbrev pub closed-with : State → List Play → State
   closed-with s ps = record { closed = s .closed + 1; plays = ps; real = next-real s; commits = no-commits; untold = true }
 
+  -- refused at the role, if there is one
   abbrev pub refused-if : Option ℕ → ℕ → State × Answer → State → State × Answer
   refused-if None n next s = next
   refused-if (Some r) n next s = (s, refusal (in-match n r))
@@ -175,6 +178,7 @@ module _ (t : Table) where
   abbrev pub all-told : State → State
   all-told s = record { closed = s .closed; plays = s .plays; real = s .real; commits = s .commits; untold = false }
 
+  -- a question about numbers that the rules do not have is refused
   abbrev pub asked-of : Bool → Answer → Answer
   asked-of true a = a
   asked-of false a = refusal (in-match 14 0)

@@ -159,10 +159,12 @@ abbrev pub open-brackets : Levels → ℕ
 open-brackets (outer ts) = 0
 open-brackets (inner ls at ts) = suc (open-brackets ls)
 
+-- the words and brackets of levels, in order
 abbrev pub spread : Levels → List Token
 spread (outer ts) = flats ts
 spread (inner ls at ts) = spread ls ++ Token.opening at ∷ flats ts
 
+-- what is read so far goes at most eight deep and has no empty pair that is closed
 abbrev pub Hold : Levels → Type 0
 Hold (outer ts) = Fits 0 ts
 Hold (inner ls at ts) = Hold ls × (open-brackets ls < 8) × Fits (suc (open-brackets ls)) ts
@@ -173,6 +175,7 @@ pub record Begins (front : List ℕ) (ps : List Piece) (ls : Levels) : Type 0 wh
   pub spells : tokens 0 ps ≡ spread ls
   pub holds : Hold ls
 
+-- the pieces do not end in a comment
 abbrev pub Outside : List Piece → Type 0
 Outside ps = stand between ps ≡ in-comment → ⊥
 
