@@ -70,5 +70,6 @@ pub mod Cuts
 pub mod Sameview
 pub mod Alone
 pub mod Twins
+pub mod Committed
 pub mod Runs
 pub mod Players

@@ -5,7 +5,8 @@
 --     Own-play-alone      a seat's answers hang on its own play alone
 --     Known-exactly       known is answered exactly if the fact holds in every legal play that the seat can't tell from the real one
 --     Either-order        two facts that rest on no knowledge can be hinted in either order
---     Referees            the three together, for every game, deal and list of requests
+--     Real-as-committed   the real play has the real world and the moves committed at each accepted close
+--     Referees            all of it together, for every game, deal and list of requests
 use Prim.Native.Nat.{ℕ, _≤_, _<_}
 use mathlib.Core.Path.{_≡_}
 use mathlib.Core.Bool.{Bool, true, false, cond, _&&_}
@@ -207,6 +208,7 @@ Either-order =
     × Common-first (on g places h) q (deal-match (on g places h))
 
 pub record Referees : Type 0 where
+  pub real-as-committed : Real-as-committed
   pub own-play-alone : Own-play-alone
   pub known-exactly : Known-exactly
   pub either-order : Either-order
