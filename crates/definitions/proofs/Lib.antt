@@ -73,3 +73,5 @@ pub mod Twins
 pub mod Committed
 pub mod Runs
 pub mod Players
+pub mod Lawfully
+pub mod Made

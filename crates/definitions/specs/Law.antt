@@ -7,23 +7,23 @@
 --     Either-order        two facts that rest on no knowledge can be hinted in either order
 --     Real-as-committed   the real play has the real world and the moves committed at each accepted close
 --     Referees            all of it together, for every game, deal and list of requests
-use Prim.Native.Nat.{ℕ, _≤_, _<_}
+use Prim.Native.Nat.{ℕ, _+_, _≤_, _<_}
 use mathlib.Core.Path.{_≡_}
 use mathlib.Core.Bool.{Bool, true, false, cond, _&&_}
 use mathlib.Core.List.{List, [], _∷_, map}
 use lib.Dec.{eqb}
 use lib.ListN.{length, getD}
 use Rattle.std.specs.Orderings.{Decides}
-use Rattle.definitions.specs.Lists.{In, joined, keep}
+use Rattle.definitions.specs.Lists.{In, any, keep}
 use Rattle.definitions.specs.Refusal.{Refusal, Verdict, accepted, refused}
 use Rattle.definitions.specs.Form.{Atom}
-use Rattle.definitions.specs.Level.{rests-on-knowledge}
+use Rattle.definitions.specs.Level.{member, is-knows, rests-on-knowledge}
 use Rattle.definitions.specs.Holds.{holds}
 use Rattle.definitions.specs.Ruleset.{Game, game-verdict, roles}
 use Rattle.definitions.specs.Deal.{Deal, Lawful, standing}
 use Rattle.definitions.specs.Knowledge.{in-deal-holds, hint-verdict, Left-by-hint}
-use Rattle.definitions.specs.Play.{Turn, Play, alike, before, is-player, Plays}
-use Rattle.definitions.specs.Match.{Table, State, Call, Answer, step, run, chosen, real-play, deal-match}
+use Rattle.definitions.specs.Play.{Turn, Play, alike, nth, same-play, before, legal-moves, next-book, book, is-player, Plays}
+use Rattle.definitions.specs.Match.{Table, State, Call, Answer, step, run, chosen, real-play, real-knowledge, really, own-moves, deal-match}
 
 -- games that a text gives
 abbrev pub Is-game : Game → Type 0
@@ -159,6 +159,23 @@ Own-play-alone =
     → ((n : ℕ) → calls-of r n (trace t s xs) ≡ calls-of r n (trace u v ys))
     → ((n : ℕ) → n < end t s xs .closed → n < end u v ys .closed → saw t (end t s xs) r n ≡ saw u (end u v ys) r n)
     → (n : ℕ) → answers-of r n (trace t s xs) ≡ answers-of r n (trace u v ys)
+
+-- what a state of a match stands for, by any reading of which plays are legal and what is known in them: the book has exactly the legal plays of as many rounds, each once, and what calls look at is what holds and is known in the real play
+pub record Means (t : Table) (s : State) (L : ℕ → Play → Bool) (K : ℕ → Play → List (Atom ℕ)) : Type 0 where
+  pub plays : (p : Play) → any (λ q. same-play q p) (s .plays) ≡ L (s .closed) p
+  pub once : (i j : ℕ) → i < j → j < length (s .plays) → same-play (nth (s .plays) i) (nth (s .plays) j) ≡ false
+  pub next : next-book (t .game) (t .deal) (s .plays) ≡ book (t .game) (t .deal) (s .closed + 1)
+  pub real : L (s .closed) (real-play t s) ≡ true
+  pub moves : (r : ℕ) → own-moves t s r ≡ legal-moves (t .game) (real-play t s) (K (s .closed) (real-play t s)) r
+  pub holding : (a : Atom ℕ) → is-knows a ≡ false → really t s a ≡ holds (t .game .rules) (before (t .game) (real-play t s) (K (s .closed) (real-play t s))) a
+  pub known : (r p : ℕ) → r < roles (t .game) → p < length (t .game .names .facts) → member (real-knowledge t s) (Atom.knows r p) ≡ member (K (s .closed) (real-play t s)) (Atom.knows r p)
+  pub common : (p : ℕ) → p < length (t .game .names .facts) → member (real-knowledge t s) (Atom.common p) ≡ member (K (s .closed) (real-play t s)) (Atom.common p)
+
+abbrev pub States-mean : Type 0
+States-mean =
+    (t : Table) → Is-game (t .game) → Lawful (t .deal) → (s : State) → deal-match t ≡ accepted s → (xs : List Request)
+    → (L : ℕ → Play → Bool) (K : ℕ → Play → List (Atom ℕ)) → Plays (t .game) (t .deal) L K
+    → Means t (end t s xs) L K
 
 abbrev pub Known-exactly : Type 0
 Known-exactly =
