@@ -29,7 +29,7 @@ module _ (t : Table) (s : State) (h : Reached t s) where
       subst (λ ps. s .real < length ps → in-book (t .game) (t .deal) (s .closed) (nth ps (s .real)) ≡ true) (sym (h .booked))
       (nth-listed (t .game) (t .deal) (s .closed) (s .real)) (h .low)
 
-  real-known : real-knowledge t s ≡ book-knowledge (t .game) (t .deal) (s .closed) (real-play t s)
+  pub real-known : real-knowledge t s ≡ book-knowledge (t .game) (t .deal) (s .closed) (real-play t s)
   real-known =
       subst (λ ps. s .real < length ps → getD (knowledge (t .game) (t .deal) ps) (s .real) [] ≡ book-knowledge (t .game) (t .deal) (s .closed) (nth ps (s .real))) (sym (h .booked))
       (λ low. sym (row-nth (t .game) (t .deal) (s .closed) (s .real) low)) (h .low)

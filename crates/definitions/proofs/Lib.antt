@@ -71,6 +71,7 @@ pub mod Sameview
 pub mod Alone
 pub mod Twins
 pub mod Committed
+pub mod Meant
 pub mod Runs
 pub mod Players
 pub mod Lawfully

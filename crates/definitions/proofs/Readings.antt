@@ -53,10 +53,10 @@ module _ (g : Game) (sound : Sound-game g) where
     known-agree (suc k) p l = agree-more k (known-agree k) p l
 
   module _ (p : Play) (xs ys : List (Atom ℕ)) (agree : (k : ℕ) → Agree g k xs ys) where
-    plain-same : (ms : Option (List ℕ)) (a : Atom ℕ) → is-knows a ≡ false → holds (g .rules) (position-with (p .state) ms xs) a ≡ holds (g .rules) (position-with (p .state) ms ys) a
+    pub plain-same : (ms : Option (List ℕ)) (a : Atom ℕ) → is-knows a ≡ false → holds (g .rules) (position-with (p .state) ms xs) a ≡ holds (g .rules) (position-with (p .state) ms ys) a
     plain-same ms a plain = holds-same g sound (level (g .rules) a) (p .state) ms xs ys (agree _) a plain (omega arith)
 
-    legal-moves-same : (r : ℕ) → legal-moves g p xs r ≡ legal-moves g p ys r
+    pub legal-moves-same : (r : ℕ) → legal-moves g p xs r ≡ legal-moves g p ys r
     legal-moves-same r = ap (λ test. keep test (moves-of g r)) (fun-ext λ m. plain-same None (Atom.legal r m) refl)
 
     after-same : (ms : List ℕ) → after g p xs ms ≡ after g p ys ms

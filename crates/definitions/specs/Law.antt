@@ -6,6 +6,7 @@
 --     Known-exactly       known is answered exactly if the fact holds in every legal play that the seat can't tell from the real one
 --     Either-order        two facts that rest on no knowledge can be hinted in either order
 --     Real-as-committed   the real play has the real world and the moves committed at each accepted close
+--     Means, States-mean  what calls look at is what holds and is known in the real play, among the legal plays
 --     Referees            all of it together, for every game, deal and list of requests
 use Prim.Native.Nat.{ℕ, _+_, _≤_, _<_}
 use mathlib.Core.Path.{_≡_}
@@ -226,6 +227,7 @@ Either-order =
 
 pub record Referees : Type 0 where
   pub real-as-committed : Real-as-committed
+  pub states-mean : States-mean
   pub own-play-alone : Own-play-alone
   pub known-exactly : Known-exactly
   pub either-order : Either-order
