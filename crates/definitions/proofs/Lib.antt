@@ -76,3 +76,6 @@ pub mod Runs
 pub mod Players
 pub mod Lawfully
 pub mod Made
+pub mod Tallied
+pub mod Stopped
+pub mod Wrong

@@ -18,16 +18,16 @@ use Rattle.definitions.proofs.Noted.{worlds-of, reals-of, reals, Grown, grown-
 
 module _ (fuel p : ℕ) (s : Sheet) (k : ℕ) (bs : List ℕ) where
   -- a first record with a body of n bytes, and what follows it
-  abbrev first-of : ℕ → Verdict Sheet
+  abbrev pub first-of : ℕ → Verdict Sheet
   first-of n = noted p s (record-of k (take n bs))
 
-  abbrev rest-of : ℕ → Sheet → Verdict Sheet
+  abbrev pub rest-of : ℕ → Sheet → Verdict Sheet
   rest-of n t = records fuel (p + 1 + n) t (drop n bs)
 
-  abbrev by-length : ℕ → Bool → Verdict Sheet
+  abbrev pub by-length : ℕ → Bool → Verdict Sheet
   by-length n b = elim b [ false ↦ refused (in-deal 11 p) | true ↦ then (first-of n) (rest-of n) ]
 
-  abbrev by-kind : Option ℕ → Verdict Sheet
+  abbrev pub by-kind : Option ℕ → Verdict Sheet
   by-kind o = elim o [ None ↦ refused (in-deal 11 p) | Some n ↦ by-length n (leb n (length bs)) ]
 
   records-by : (n : ℕ) → body-length k ≡ Some n → n ≤ length bs → records (suc fuel) p s (k ∷ bs) ≡ then (first-of n) (rest-of n)
@@ -61,15 +61,13 @@ records-laid (suc fuel) p s (k ∷ bs) t h =
     let l : Laid = record { kind = k; content = take n bs; fits = e ∙ ap Some (sym (length-take-le n bs low)) } in
     (l ∷ laid, ap (λ xs. k ∷ take n bs ++ xs) bytes ∙ ap (λ xs. k ∷ xs) (take-append-drop n bs), grown-more (noted-grows p s (record-of k (take n bs)) u f) grown)
 
-records-more : (fuel p : ℕ) (s : Sheet) (l : Laid) (rest : List ℕ) (u t : Sheet) → noted p s (record-of (l .kind) (l .content)) ≡ accepted u → records fuel (p + 1 + length (l .content)) u rest ≡ accepted t → records (suc fuel) p s (laid-bytes l ++ rest) ≡ accepted t
-records-more fuel p s l rest u t f on =
+pub records-more : (fuel p : ℕ) (s : Sheet) (l : Laid) (rest : List ℕ) → records (suc fuel) p s (laid-bytes l ++ rest) ≡ then (noted p s (record-of (l .kind) (l .content))) (λ u. records fuel (p + 1 + length (l .content)) u rest)
+records-more fuel p s l rest =
     let n = length (l .content) in
     let bs = l .content ++ rest in
     records-by fuel p s (l .kind) bs n (l .fits) (simp length-append (omega arith))
     ∙ ap (λ xs. then (noted p s (record-of (l .kind) xs)) (rest-of fuel p s (l .kind) bs n)) (take-at (l .content) rest n refl)
-    ∙ ap (λ v. then v (rest-of fuel p s (l .kind) bs n)) f
-    ∙ ap (records fuel (p + 1 + n) u) (drop-at (l .content) rest n refl)
-    ∙ on
+    ∙ ap (λ xs. then (noted p s (record-of (l .kind) (l .content))) (λ u. records fuel (p + 1 + n) u xs)) (drop-at (l .content) rest n refl)
 
 -- records for which the sheet has room are accepted
 records-accepts : (laid : List Laid) (fuel p : ℕ) (s : Sheet) → length (joined laid-bytes laid) ≤ fuel → Room s (joined worlds-in laid) (joined reals-in laid) → (t : Sheet) × (records fuel p s (joined laid-bytes laid) ≡ accepted t) × Grown s (joined worlds-in laid) (joined reals-in laid) t
@@ -81,7 +79,7 @@ records-accepts (l ∷ laid) (suc fuel) p s low room =
     let grown = noted-grows p s r u f in
     let short : length (joined laid-bytes laid) ≤ fuel = omega (arith, length-append (l .content) (joined laid-bytes laid)) in
     let (t, on, more) = records-accepts laid fuel (p + 1 + length (l .content)) u short (room-rest (joined worlds-in laid) (joined reals-in laid) grown room) in
-    (t, records-more fuel p s l (joined laid-bytes laid) u t f on, grown-more grown more)
+    (t, records-more fuel p s l (joined laid-bytes laid) ∙ ap (λ v. then v (λ x. records fuel (p + 1 + length (l .content)) x (joined laid-bytes laid))) f ∙ on, grown-more grown more)
 
 pub sheets-decided : Sheets-decided
 sheets-decided bs = judged read refl

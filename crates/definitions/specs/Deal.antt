@@ -155,6 +155,26 @@ pub record Sheet-of (bs : List ℕ) (d : Deal) : Type 0 where
   pub within : real < length (joined worlds-in laid)
   pub deal : d ≡ sheet-deal (joined worlds-in laid) real
 
+-- records with which nothing is wrong yet
+pub record Fine-so-far (done : List Laid) : Type 0 where
+  pub few : length (joined worlds-in done) ≤ 64
+  pub one : length (joined reals-in done) ≤ 1
+
+abbrev pub laid-length : List Laid → ℕ
+laid-length done = length (joined laid-bytes done)
+
+-- the first record with which something is wrong, at its kind byte; at the end a real world that is missing, at the length, or that is no world of the sheet, at its record
+pub data Sheet-wrong (bs : List ℕ) : ℕ → Type 0 where
+  unknown-kind : (done : List Laid) (k : ℕ) (rest : List ℕ) → Fine-so-far done → bs ≡ joined laid-bytes done ++ k ∷ rest → body-length k ≡ None → Sheet-wrong bs (laid-length done)
+  cut-body : (done : List Laid) (k n : ℕ) (rest : List ℕ) → Fine-so-far done → bs ≡ joined laid-bytes done ++ k ∷ rest → body-length k ≡ Some n → length rest < n → Sheet-wrong bs (laid-length done)
+  one-too-many : (done : List Laid) (l : Laid) (rest : List ℕ) → Fine-so-far done → bs ≡ joined laid-bytes done ++ (laid-bytes l ++ rest) → (Fine-so-far (done ++ l ∷ []) → ⊥) → Sheet-wrong bs (laid-length done)
+  no-real : (done : List Laid) → Fine-so-far done → bs ≡ joined laid-bytes done → joined reals-in done ≡ [] → Sheet-wrong bs (length bs)
+  real-no-world : (before : List Laid) (l : Laid) (rest : List Laid) (r : ℕ) → Fine-so-far (before ++ l ∷ rest) → bs ≡ joined laid-bytes (before ++ l ∷ rest) → reals-in l ≡ r ∷ [] → length (joined worlds-in (before ++ l ∷ rest)) ≤ r → Sheet-wrong bs (laid-length before)
+
+-- a refused sheet is refused with 11 where it is wrong, and it is wrong at one place
+abbrev pub Sheets-refused : Type 0
+Sheets-refused = (bs : List ℕ) → At-verdict (sheet-verdict bs) (λ d. (p : ℕ) → Sheet-wrong bs p → ⊥) (λ r. (p : ℕ) × (r ≡ in-deal 11 p) × Sheet-wrong bs p × ((q : ℕ) → Sheet-wrong bs q → q ≡ p))
+
 -- a sheet is accepted exactly if it is laid out so, in one way
 abbrev pub Sheets-decided : Type 0
 Sheets-decided = (bs : List ℕ) → At-verdict (sheet-verdict bs) (λ d. Sheet-of bs d × ((e : Deal) → Sheet-of bs e → e ≡ d)) (λ r. (d : Deal) → Sheet-of bs d → ⊥)

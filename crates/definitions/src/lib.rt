@@ -1,5 +1,5 @@
 // What the answers of a referee unit mean: the definitions are in specs/. Each function here has a theorem about them for its contract.
-ghost use Rattle.definitions.specs.Deal.{Made-lawful, Sheets-decided};
+ghost use Rattle.definitions.specs.Deal.{Made-lawful, Sheets-decided, Sheets-refused};
 ghost use Rattle.definitions.specs.Form.{Keywords-spelt, Values-decimal, Terms-alike};
 ghost use Rattle.definitions.specs.Holds.{Holds-standard, Standard-one, Level-local, Without-knowledge};
 ghost use Rattle.definitions.specs.Knowledge.{Chains-decided, Hint-leaves, Hints-lawful, Knowing-knows, Knowledge-one};
@@ -84,9 +84,10 @@ pub fn play_laws() -> u8
     0
 }
 
-// A sheet is accepted exactly if it is laid out as one; a hint leaves exactly the worlds that stood and in which its fact holds; the deals that are made are lawful.
+// A sheet is accepted exactly if it is laid out as one, and else refused where it is wrong; a hint leaves exactly the worlds that stood and in which its fact holds; the deals that are made are lawful.
 pub fn deal_laws() -> u8
     ensures sheets { λ _. ⌜ Sheets-decided ⌝ }
+    ensures refused { λ _. ⌜ Sheets-refused ⌝ }
     ensures hints { λ _. ⌜ Hint-leaves ⌝ }
     ensures lawful { λ _. ⌜ Made-lawful ⌝ }
     ensures hinted { λ _. ⌜ Hints-lawful ⌝ }
