@@ -1,4 +1,5 @@
 // The forms of the language: which form the tokens of a term are, if they are one.
+#![tactic(auto)]
 mod atom;
 mod body;
 mod form;

@@ -1,4 +1,6 @@
 // The text layer: bytes are read as words and brackets, the tokens of a text's forms, and written out again.
+#![tactic(auto)]
+
 mod fault;
 mod forms;
 mod nest;

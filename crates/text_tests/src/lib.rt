@@ -1,4 +1,5 @@
 // Tests of the text layer: what is refused and where, the tokens of a text, and texts written out again.
+#![tactic(auto)]
 #[cfg(test)]
 mod tests {
     use std::alloc::{AllocError, Global};

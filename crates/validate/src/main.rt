@@ -1,4 +1,5 @@
 // Prints the forms of a rules file, one line each with the place where it starts, or what is wrong with it and where.
+#![tactic(auto)]
 use anyhow::anyhow;
 use report::report;
 use std::io::Write;

@@ -24,8 +24,8 @@ returns-in-err-run c =
 
 pub returns : goal.returns
 returns c =
-    let t = c.in-ok-run.ensures in
+    let t = c.in_ok-run.ensures in
     record {
-      value = (t.0, short_verdict c.args.text.now (leb-true (length c.args.text.now) 32768 (not-false (leb (length c.args.text.now) 32768) (sym c.if-too-long.ensures))) ∙ t.1, t.2);
+      value = (t.0, short_verdict c.args.text.now (leb-true (length c.args.text.now) 32768 (not-false (leb (length c.args.text.now) 32768) (sym c.if-too_long.ensures))) ∙ t.1, t.2);
       law = decided;
     }

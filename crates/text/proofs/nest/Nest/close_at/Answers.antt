@@ -11,6 +11,6 @@ returns-then-self c = λ ls h. shut_empty c.args.at ls (sym h.marked ∙ c.if-se
 
 pub returns : goal.returns
 returns c = λ ls h.
-    let some : 0 < vec_len c.args.self.now.opens = omega (arith, false-eqb (vec_len c.args.self.now.opens) 0 c.if-is-empty.ensures) in
+    let some : 0 < vec_len c.args.self.now.opens = omega (arith, false-eqb (vec_len c.args.self.now.opens) 0 c.if-is_empty.ensures) in
     let popped = ap (λ o. vec_items c.pop.new.self ++ option_to_list o) (c.pop.ensures.value 0 some) in
-    shut_filled _ _ c.args.at _ ls h c.if-self.false (c.pop.ensures.items ∙ popped) c.in-ok-push.ensures.items c.if-self.false
+    shut_filled _ _ c.args.at _ ls h c.if-self.false (c.pop.ensures.items ∙ popped) c.in_ok-push.ensures.items c.if-self.false

@@ -11,5 +11,5 @@ returns-then-is-full c = λ ls h.
 
 pub returns : goal.returns
 returns c = λ ls h.
-    let few : open_brackets ls < 8 = omega (arith, ltb-true (vec_len c.args.self.now.opens) 8 (not-false (ltb (vec_len c.args.self.now.opens) 8) (sym c.if-is-full.ensures)), c.args.self.now.opens.ok.0, ap length h.opens, places_count ls) in
-    (_, cond-true _ _ _ (lt-ltb (open_brackets ls) 8 few), nests_open _ _ ls c.args.at h c.in-ok-push.ensures.items c.in-ok-push-2.ensures.items refl)
+    let few : open_brackets ls < 8 = omega (arith, ltb-true (vec_len c.args.self.now.opens) 8 (not-false (ltb (vec_len c.args.self.now.opens) 8) (sym c.if-is_full.ensures)), c.args.self.now.opens.ok.0, ap length h.opens, places_count ls) in
+    (_, cond-true _ _ _ (lt-ltb (open_brackets ls) 8 few), nests_open _ _ ls c.args.at h c.in_ok-push.ensures.items c.in_ok-push-2.ensures.items refl)

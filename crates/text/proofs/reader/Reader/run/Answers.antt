@@ -21,7 +21,7 @@ returns-in-err-step c =
 pub loop-at-preserved : goal.loop-at-preserved
 loop-at-preserved c =
     let i = c.loop-at.invariant in
-    let s = c.in-ok-step.ensures i.0 i.1 i.2 in
+    let s = c.in_ok-step.ensures i.0 i.1 i.2 in
     (s.0, s.1, s.3, sym (reading_on c.args.text.now c.loop-at.at i.0 s.0 i.1 s.1 c.loop-at-test.true s.2) ∙ i.3)
 
 pub returns : goal.returns
