@@ -1,11 +1,11 @@
 -- What the steps of a `Reader` come to.
-use Rattle.std.proofs.Common.{◌≡◌, ℕ, ◌+◌, ◌-◌, ◌<◌, ◌≤◌, true, List, [], ◌∷◌, ◌++◌, length, get_or, take, drop, IfSome, Some, None, Option, sym, refl, ap, ◌∙◌, subst, arith}
+use Rattle.std.proofs.Common.{◌≡◌, ℕ, ◌+◌, ◌-◌, ◌<◌, ◌≤◌, true, List, [], ◌∷◌, ◌++◌, length, get_or, take, drop, IfSome, Some, None, Option, sym, ap, ◌∙◌, subst, arith}
 use Rattle.std.proofs.lemmas.List.{take_more, drop_more, get_or-drop, length-drop, at_drop_more}
 use Rattle.std.proofs.lemmas.Bool.{cond-true}
 use Rattle.definitions.specs.Refusal.{Refusal, Verdict, refused}
-use Rattle.definitions.specs.Term.{Placed, none}
-use Rattle.definitions.specs.Text.{Levels, outer, sort, in_words}
-use Rattle.definitions.specs.Reading.{Mode, Step, next, stop, step, reading}
+use Rattle.definitions.specs.Term.{Placed}
+use Rattle.definitions.specs.Text.{Levels, sort, in_words}
+use Rattle.definitions.specs.Reading.{Mode, next, stop, step, reading}
 use Rattle.definitions.proofs.Steps.{reading_by}
 use Rattle.text.specs.declared.reader.Reader.{Reader}
 use Rattle.text.specs.declared.reader.State.{State}

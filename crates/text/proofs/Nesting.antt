@@ -1,5 +1,5 @@
 -- What the calls of a `Nest` make of its levels.
-use Rattle.std.proofs.Common.{◌≡◌, ℕ, suc, ◌+◌, ◌-◌, ◌<◌, ◌≤◌, true, false, cond, ltb, List, [], ◌∷◌, ◌++◌, map, length, get_or, vec_items, vec_len, sym, refl, ap, ◌∙◌, append_assoc, add-one, arith}
+use Rattle.std.proofs.Common.{◌≡◌, ℕ, suc, ◌-◌, ◌<◌, ◌≤◌, true, false, [], ◌∷◌, ◌++◌, map, length, get_or, vec_items, sym, refl, ap, ◌∙◌, append_assoc, add-one, arith}
 use Rattle.std.proofs.lemmas.List.{map_push, length_push, same_from_push, get_or_push}
 use Rattle.definitions.specs.Refusal.{accepted, refused}
 use Rattle.definitions.specs.Term.{Tree, Placed, none, ◌&◌}

@@ -1,9 +1,7 @@
 -- What the values of this crate stand for in the definitions.
-use Rattle.std.specs.Prelude.{List, map}
 use Rattle.definitions.specs.Text as text
 use Rattle.text.specs.declared.sort.Sort.{Sort}
 use Rattle.text.specs.declared.sort.Sort.TheVariants.{Word, Divider, Open, Close, Comment, Variable, Odd}
-use Rattle.text.specs.declared.token.Token as token_type
 use Rattle.text.specs.declared.token.Token.{Token}
 
 abbrev pub sorted : Sort → text.Sort

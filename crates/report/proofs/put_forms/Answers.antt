@@ -5,10 +5,10 @@ use Rattle.report.proofs.put_forms.Goals as goal
 
 pub loop-from-preserved : goal.loop-from-preserved
 loop-from-preserved c = (
-  omega (arith, c.term-len.ensures.within, length-take (length c.args.tokens.now - c.loop-from.from) (drop c.loop-from.from c.args.tokens.now), length-drop c.loop-from.from c.args.tokens.now),
+  omega (arith, c.term_len.ensures.within, length-take (length c.args.tokens.now - c.loop-from.from) (drop c.loop-from.from c.args.tokens.now), length-drop c.loop-from.from c.args.tokens.now),
   λ ts is.
       let i = c.loop-from.invariant.1 ts is in
-      forms_more c.term-len.ensures.law c.args.tokens.now c.loop-from.from c.term-len.result (vec_items c.args.out.now) (vec_items c.loop-from.out) (vec_items c.put-form.new.out) c.loop-from-test.true c.term-len.ensures.value c.in-ok-put-form.ensures ts i.0 i.1 i.2,
+      forms_more c.term_len.ensures.law c.args.tokens.now c.loop-from.from c.term_len.result (vec_items c.args.out.now) (vec_items c.loop-from.out) (vec_items c.put_form.new.out) c.loop-from-test.true c.term_len.ensures.value c.in_ok-put_form.ensures ts i.0 i.1 i.2,
 )
 
 pub returns : goal.returns

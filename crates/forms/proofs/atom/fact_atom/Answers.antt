@@ -4,5 +4,5 @@ use Rattle.forms.proofs.Regrown.{view_is}
 use Rattle.forms.proofs.Viewed.{when_made}
 use Rattle.forms.proofs.atom.fact_atom.Goals as goal
 
-pub returns-then-is-term-at : goal.returns-then-is-term-at
-returns-then-is-term-at c = λ u is. when_made _ _ _ (c.if-is-term-at.ensures u is) (ap form.Atom.fact (view_is c.args.term u is))
+pub returns-then-is_term_at : goal.returns-then-is_term_at
+returns-then-is_term_at c = λ u is. when_made _ _ _ (c.if-is_term_at.ensures u is) (ap form.Atom.fact (view_is c.args.term u is))

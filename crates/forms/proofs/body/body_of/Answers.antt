@@ -10,16 +10,16 @@ use Rattle.forms.proofs.body.body_of.Goals as goal
 pub loop-from-init : goal.loop-from-init
 loop-from-init c = (omega arith, sofar_none part c.args.terms.now (PartsAre c.new-body.result) c.new-body.ensures)
 
-pub returns-in-err-put : goal.returns-in-err-put
-returns-in-err-put c =
-    let p = err_from_is_err_and c.from-residual.result c.from-residual.ensures.1 in
+pub returns-in_err-put : goal.returns-in_err-put
+returns-in_err-put c =
+    let p = err_from_is_err_and c.from_residual.result c.from_residual.ensures.1 in
     rw (p.1, p.2)
-    (body_stops c.term-len.ensures.law c.args.terms.now c.loop-from.from c.term-len.result c.loop-from.body c.put.new.self c.in-err-put.field-0.0 c.loop-from-test.true c.term-len.ensures.value (λ u here ps had. c.in-err-put.ensures ps u had here) c.loop-from.invariant.1)
+    (body_stops c.term_len.ensures.law c.args.terms.now c.loop-from.from c.term_len.result c.loop-from.body c.put.new.self c.in_err-put.field-0.0 c.loop-from-test.true c.term_len.ensures.value (λ u here ps had. c.in_err-put.ensures ps u had here) c.loop-from.invariant.1)
 
 pub loop-from-preserved : goal.loop-from-preserved
 loop-from-preserved c = (
-  omega (arith, c.term-len.ensures.within, length-take (length c.args.terms.now - c.loop-from.from) (drop c.loop-from.from c.args.terms.now), length-drop c.loop-from.from c.args.terms.now),
-  sofar_more part c.term-len.ensures.law c.args.terms.now c.loop-from.from c.term-len.result (PartsAre c.loop-from.body) (PartsAre c.put.new.self) c.loop-from-test.true c.term-len.ensures.value (λ u here ps had. c.in-ok-put.ensures ps u had here) c.loop-from.invariant.1,
+  omega (arith, c.term_len.ensures.within, length-take (length c.args.terms.now - c.loop-from.from) (drop c.loop-from.from c.args.terms.now), length-drop c.loop-from.from c.args.terms.now),
+  sofar_more part c.term_len.ensures.law c.args.terms.now c.loop-from.from c.term_len.result (PartsAre c.loop-from.body) (PartsAre c.put.new.self) c.loop-from-test.true c.term_len.ensures.value (λ u here ps had. c.in_ok-put.ensures ps u had here) c.loop-from.invariant.1,
 )
 
 pub returns : goal.returns

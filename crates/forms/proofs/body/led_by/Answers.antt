@@ -14,4 +14,4 @@ returns-in-None c = λ u is.
     pair_unled c.in-Pair.w.now u p q ts split (sym c.in-None.ensures)
 
 pub returns-in-default : goal.returns-in-default
-returns-in-default c = λ u is. shape_unled c.shape-of.result u c.in-default.not-Pair (c.shape-of.ensures u is)
+returns-in-default c = λ u is. shape_unled c.shape_of.result u c.in-default.not-Pair (c.shape_of.ensures u is)

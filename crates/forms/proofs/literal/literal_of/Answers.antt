@@ -9,9 +9,9 @@ pub returns-in-Pair : goal.returns-in-Pair
 returns-in-Pair c = λ u is.
     let (p, q, ts, split, rest) = c.in-Pair.ensures u is in
     c.pair_literal.ensures ts u rest is
-    ∙ (λ i. pair_literal (c.keyword-of.ensures i) (list (bares ts)) (bare (split i)))
+    ∙ (λ i. pair_literal (c.keyword_of.ensures i) (list (bares ts)) (bare (split i)))
     ∙ pair_is c.in-Pair.w.now (bares ts)
     ∙ ap (λ t. literal (bare t)) (sym split)
 
 pub returns-in-default : goal.returns-in-default
-returns-in-default c = λ u is. c.bare-of.ensures u is ∙ unled c.shape-of.result u c.in-default.not-Pair (c.shape-of.ensures u is)
+returns-in-default c = λ u is. c.bare_of.ensures u is ∙ unled c.shape_of.result u c.in-default.not-Pair (c.shape_of.ensures u is)

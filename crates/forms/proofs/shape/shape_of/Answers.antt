@@ -3,8 +3,8 @@ use Rattle.std.proofs.lemmas.Bool.{eqb-true}
 use Rattle.forms.proofs.Taken.{some_tokens, word_shape, short_shape, pair_shape, other_shape}
 use Rattle.forms.proofs.shape.shape_of.Goals as goal
 
-pub returns-then-is-empty : goal.returns-then-is-empty
-returns-then-is-empty c = λ u is. absurd (some_tokens c.args.term.now u (eqb-true (length c.args.term.now) 0 (sym c.if-is-empty.ensures)) is)
+pub returns-then-is_empty : goal.returns-then-is_empty
+returns-then-is_empty c = λ u is. absurd (some_tokens c.args.term.now u (eqb-true (length c.args.term.now) 0 (sym c.if-is_empty.ensures)) is)
 
 pub returns-in-Word : goal.returns-in-Word
 returns-in-Word c = λ u is. word_shape c.args.term.now u _ _ c.in-Word.spelling c.in-Word.is is

@@ -3,8 +3,8 @@ use Rattle.std.specs.Option.{option_to_list}
 use Rattle.text.proofs.Nesting.{shut_outside, shut_empty, shut_filled}
 use Rattle.text.proofs.nest.Nest.close_at.Goals as goal
 
-pub returns-then-is-empty : goal.returns-then-is-empty
-returns-then-is-empty c = λ ls h. shut_outside c.args.at ls (sym (ap length h.opens) ∙ sym c.args.self.now.opens.ok.0 ∙ true-eqb (vec_len c.args.self.now.opens) 0 c.if-is-empty.ensures)
+pub returns-then-is_empty : goal.returns-then-is_empty
+returns-then-is_empty c = λ ls h. shut_outside c.args.at ls (sym (ap length h.opens) ∙ sym c.args.self.now.opens.ok.0 ∙ true-eqb (vec_len c.args.self.now.opens) 0 c.if-is_empty.ensures)
 
 pub returns-then-self : goal.returns-then-self
 returns-then-self c = λ ls h. shut_empty c.args.at ls (sym h.marked ∙ c.if-self.true)

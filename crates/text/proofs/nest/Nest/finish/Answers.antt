@@ -1,4 +1,4 @@
-use Rattle.std.proofs.Common.{◌≡◌, ℕ, ◌-◌, ◌<◌, List, length, get_or, sym, ap, ◌∙◌, subst, arith}
+use Rattle.std.proofs.Common.{◌≡◌, ℕ, ◌-◌, ◌<◌, List, length, get_or, ap, ◌∙◌, subst, arith}
 use Rattle.text.specs.Nesting.{places}
 use Rattle.text.proofs.Nesting.{ended_open, ended_closed}
 use Rattle.text.proofs.nest.Nest.finish.Goals as goal

@@ -12,11 +12,11 @@ use Rattle.text.proofs.reader.Reader.run.Goals as goal
 pub loop-at-init : goal.loop-at-init
 loop-at-init c = (Mode.between, outer none, c.requires c.args.text.now, refl)
 
-pub returns-in-err-step : goal.returns-in-err-step
-returns-in-err-step c =
+pub returns-in_err-step : goal.returns-in_err-step
+returns-in_err-step c =
     let i = c.loop-at.invariant in
-    let p = err_from_is_err_and c.from-residual.result c.from-residual.ensures.1 in
-    rw (p.1, p.2) (reading_stops c.args.text.now c.loop-at.at i.0 i.1 _ c.in-err-step.field-0.0 c.loop-at-test.true i.3 (c.in-err-step.ensures i.0 i.1 i.2))
+    let p = err_from_is_err_and c.from_residual.result c.from_residual.ensures.1 in
+    rw (p.1, p.2) (reading_stops c.args.text.now c.loop-at.at i.0 i.1 _ c.in_err-step.field-0.0 c.loop-at-test.true i.3 (c.in_err-step.ensures i.0 i.1 i.2))
 
 pub loop-at-preserved : goal.loop-at-preserved
 loop-at-preserved c =
