@@ -1,5 +1,5 @@
 -- Positions that agree on knowledge of a game's roles and facts, up to a level, have the same atoms up to that level.
-use Rattle.std.proofs.Common.{◌≡◌, ℕ, suc, ◌<◌, ◌≤◌, Bool, true, false, ◌||◌, leb, List, length, Option, refl, ap₂, arith}
+use Rattle.std.proofs.Common.{◌≡◌, ℕ, suc, ◌<◌, ◌≤◌, Bool, false, ◌||◌, leb, List, length, Option, refl, ap₂, arith}
 use Rattle.std.proofs.lemmas.Bool.{both_ways, leb-true, le-leb}
 use Rattle.definitions.specs.Form.{Atom}
 use Rattle.definitions.specs.Lists.{In, here, joined}

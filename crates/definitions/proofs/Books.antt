@@ -1,17 +1,16 @@
 -- The books have exactly the legal plays, with the knowledge in them.
-use Rattle.std.proofs.Common.{◌≡◌, ℕ, suc, ◌<◌, true, List, [], length, Decides, sym, ◌∙◌, subst, subst₂, arith}
-use Rattle.std.proofs.lemmas.List.{length-map}
+use Rattle.std.proofs.Common.{◌≡◌, ℕ, suc, ◌<◌, true, List, length, Decides, sym, subst, subst₂, arith}
 use Rattle.std.proofs.lemmas.Bool.Decides.{Decides-like}
 use Rattle.definitions.specs.Form.{Atom}
-use Rattle.definitions.specs.Level.{highest, member}
-use Rattle.definitions.specs.Lists.{In, upto}
+use Rattle.definitions.specs.Level.{member}
+use Rattle.definitions.specs.Lists.{In}
 use Rattle.definitions.specs.Holds.{holds}
 use Rattle.definitions.specs.Ruleset.{Game, roles}
 use Rattle.definitions.specs.Deal.{Deal, standing}
-use Rattle.definitions.specs.Knowledge.{Frame, Chain, Knowledge, deeper, knowing, KnowingKnows}
+use Rattle.definitions.specs.Knowledge.{Chain, Knowledge, KnowingKnows}
 use Rattle.definitions.specs.Play.{Play, nth, alike, frame, before, start, after, joint_moves, successors, knowledge, each_with, LegalIn, PlayChain, in_book, book_knowledge, BooksArePlays}
-use Rattle.definitions.proofs.Listed.{in_joined, joined_in, repeat_keeps}
-use Rattle.definitions.proofs.Upto.{map_in, in_map, length_upto}
+use Rattle.definitions.proofs.Listed.{in_joined, joined_in}
+use Rattle.definitions.proofs.Upto.{map_in, in_map}
 use Rattle.definitions.proofs.Chains.{chain_below}
 use Rattle.definitions.proofs.Evenness.{knowing_length}
 use Rattle.definitions.proofs.Joint.{joint_legal, legal_joint}

@@ -1,7 +1,7 @@
 -- The worked positions, by computation.
 use Rattle.std.proofs.Common.{refl}
 use Rattle.std.specs.Fmt.{digits}
-use Rattle.definitions.specs.Worked.{FirstRound, Worked}
+use Rattle.definitions.specs.Worked.{Worked}
 
 pub worked : Worked
 unfolding digits

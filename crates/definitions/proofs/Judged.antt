@@ -2,8 +2,8 @@
 use Rattle.std.proofs.Common.{◌≡◌, ℕ, Bool, true, List, Decides}
 use Rattle.std.proofs.lemmas.Bool.Decides.{Decides-like, Decides-and, Decides-or}
 use Rattle.definitions.specs.Form.{Atom, Rule}
-use Rattle.definitions.specs.Lists.{In, any}
-use Rattle.definitions.specs.Level.{uses, strict_uses, Depends, below, same_atom, reaches, is_knows, is_does, comes_back, before_moves, looks_ahead, rests_on_knowledge, ComingBackDecided, RestingDecided, LookingAheadDecided}
+use Rattle.definitions.specs.Lists.{any}
+use Rattle.definitions.specs.Level.{uses, strict_uses, Depends, below, same_atom, reaches, is_knows, is_does, before_moves, ComingBackDecided, RestingDecided, LookingAheadDecided}
 use Rattle.definitions.proofs.Atoms.{same_atom_decides}
 use Rattle.definitions.proofs.Listed.{any_decides}
 use Rattle.definitions.proofs.Reach.{reaches_decides, depends_below, below_depends}

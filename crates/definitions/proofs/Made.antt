@@ -1,5 +1,5 @@
 -- The deals that are made, of a game's opening or of a sheet, are lawful.
-use Rattle.std.proofs.Common.{◌≡◌, ℕ, zero, suc, ◌+◌, ◌*◌, ◌^◌, ◌<◌, ◌≤◌, Bool, true, false, cond, eqb, List, [], ◌∷◌, length, get_or, take, drop, Some, None, Option, sym, refl, ap, ◌∙◌, subst, ⊎_elim, pow-suc, arith, pow_pos, pow_mono}
+use Rattle.std.proofs.Common.{◌≡◌, ℕ, zero, suc, ◌+◌, ◌*◌, ◌^◌, ◌<◌, ◌≤◌, Bool, false, cond, eqb, List, [], ◌∷◌, length, get_or, take, drop, Some, None, Option, sym, refl, ap, ◌∙◌, subst, ⊎_elim, pow-suc, arith, pow_pos, pow_mono}
 use Rattle.std.proofs.lemmas.List.{length-take-le, length-drop, take-append-drop, get_or_past}
 use Rattle.std.proofs.lemmas.Bool.{cond-true, cond_both, cases_lt, ne_eqb, lt-ltb, le-ltb}
 use Rattle.definitions.specs.Refusal.{accepted, AtVerdict}

@@ -1,10 +1,10 @@
 -- The players among the roles.
-use Rattle.std.proofs.Common.{◌≡◌, ℕ, ◌<◌, length, get_or, Decides, ⊎_elim}
+use Rattle.std.proofs.Common.{get_or, ⊎_elim}
 use Rattle.std.proofs.lemmas.List.{get_or_past}
 use Rattle.std.proofs.lemmas.Bool.{cases_lt}
 use Rattle.std.proofs.lemmas.Bool.Decides.{Decides-like, Decides-not}
 use Rattle.definitions.specs.Form.{same_term}
-use Rattle.definitions.specs.Ruleset.{Game, roles, nature}
+use Rattle.definitions.specs.Ruleset.{roles, nature}
 use Rattle.definitions.specs.Play.{is_player, PlayersDecided}
 use Rattle.definitions.proofs.Spelled.{same_term_decides}
 

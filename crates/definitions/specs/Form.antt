@@ -5,7 +5,7 @@
 --     Rule X               a head, and parts that must all hold, each of alternatives of which one must
 --     Form, form           the form that a term is, if it is one
 use Rattle.std.specs.Prelude.{◌≡◌, ℕ, ◌+◌, ◌-◌, ◌*◌, ◌≤◌, Bool, true, false, cond, not, ◌&&◌, ◌↔◌, List, [], ◌∷◌, Some, None, codes, decimal, Decides, Option, ◌==◌, ◌≢◌, nat_le}
-use Rattle.definitions.specs.Term.{Tree, Trees, none, ◌&◌, Term, Terms}
+use Rattle.definitions.specs.Term.{Tree, none, ◌&◌, Term, Terms}
 
 pub data Keyword : Type 0 where
   role : Keyword

@@ -5,14 +5,14 @@
 --     knowing        the function that computes it, by rising level
 --     hinted         the deal that is left when a fact is announced
 --     hint_verdict, row_after    what a hint is refused with, and its work row afterwards
-use Rattle.std.specs.Prelude.{◌≡◌, ℕ, suc, ◌<◌, Bool, true, false, cond, not, ◌&&◌, ◌||◌, List, [], ◌∷◌, ◌++◌, map, length, get_or, drop, replicate, None, Decides, ◌==◌, nat_le, nat_lt, slice_index, slice_index_or}
+use Rattle.std.specs.Prelude.{◌≡◌, ℕ, suc, ◌<◌, Bool, true, cond, not, ◌&&◌, ◌||◌, List, [], ◌∷◌, ◌++◌, map, length, get_or, drop, replicate, None, Decides, ◌==◌, nat_le, nat_lt, slice_index, slice_index_or}
 use Rattle.definitions.specs.Refusal.{Refusal, match_layer, Verdict, accepted, refused}
 use Rattle.definitions.specs.Form.{Atom}
 use Rattle.definitions.specs.Lists.{joined, keep, all, any, upto, repeat}
 use Rattle.definitions.specs.Level.{member, highest}
 use Rattle.definitions.specs.Holds.{Position, holds}
 use Rattle.definitions.specs.Ruleset.{Game, roles, SoundGame}
-use Rattle.definitions.specs.Deal.{Deal, Deck, Seats, Lawful, standing, among, in_deal}
+use Rattle.definitions.specs.Deal.{Deal, Lawful, standing, among, in_deal}
 
 -- worlds are numbered from 0 to below the size
 pub record Frame : Type 0 where

@@ -8,16 +8,16 @@
 --     RealAsCommitted   the real play has the real world and the moves committed at each accepted close
 --     Means, StatesMean  what calls look at is what holds and is known in the real play, among the legal plays
 --     Referees            all of it together, for every game, deal and list of requests
-use Rattle.std.specs.Prelude.{◌≡◌, ℕ, ◌+◌, ◌<◌, ◌≤◌, Bool, true, false, cond, ◌&&◌, List, [], ◌∷◌, map, length, Decides, ◌==◌, slice_index, slice_index_or}
+use Rattle.std.specs.Prelude.{◌≡◌, ℕ, ◌+◌, ◌<◌, ◌≤◌, Bool, true, false, ◌&&◌, List, [], ◌∷◌, map, length, Decides, ◌==◌, slice_index, slice_index_or}
 use Rattle.definitions.specs.Lists.{In, any, keep}
-use Rattle.definitions.specs.Refusal.{Refusal, Verdict, accepted, refused}
+use Rattle.definitions.specs.Refusal.{Verdict, accepted, refused}
 use Rattle.definitions.specs.Form.{Atom}
 use Rattle.definitions.specs.Level.{member, is_knows, rests_on_knowledge}
 use Rattle.definitions.specs.Holds.{holds}
 use Rattle.definitions.specs.Ruleset.{Game, game_verdict, roles}
 use Rattle.definitions.specs.Deal.{Deal, Lawful, standing}
 use Rattle.definitions.specs.Knowledge.{in_deal_holds, hint_verdict, LeftByHint}
-use Rattle.definitions.specs.Play.{Turn, Play, alike, nth, same_play, before, legal_moves, next_book, book, is_player, Plays}
+use Rattle.definitions.specs.Play.{Play, alike, nth, same_play, before, legal_moves, next_book, book, is_player, Plays}
 use Rattle.definitions.specs.Match.{Table, State, Call, Answer, step, run, chosen, real_play, real_knowledge, really, own_moves, deal_match}
 
 -- games that a text gives

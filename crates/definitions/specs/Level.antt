@@ -4,7 +4,7 @@
 --     Respects, Least       levels that fit every rule, and the least of them
 --     reaches, level        the functions that compute dependence and the least levels
 --     rests_on_knowledge    a fact depends on a knows atom
-use Rattle.std.specs.Prelude.{◌≡◌, ℕ, zero, suc, ◌<◌, ◌≤◌, max, Bool, true, false, cond, ◌&&◌, ◌||◌, ◌⊎◌, List, [], ◌∷◌, ◌++◌, length, Decides, ◌==◌, nat_lt}
+use Rattle.std.specs.Prelude.{◌≡◌, ℕ, suc, ◌<◌, ◌≤◌, max, Bool, true, false, cond, ◌&&◌, ◌||◌, ◌⊎◌, List, [], ◌∷◌, ◌++◌, length, Decides, ◌==◌, nat_lt}
 use Rattle.definitions.specs.Form.{Atom, Literal, settled, bare, negated, Rule}
 use Rattle.definitions.specs.Lists.{In, joined, keep, any, most, repeat}
 

@@ -5,7 +5,7 @@
 --     step             the state after a call and its answer
 --     Row, books       what book and spare book hold after a deal or a call
 --     deal_match       the state in which a match begins
-use Rattle.std.specs.Prelude.{ℕ, zero, suc, ◌+◌, min, Bool, true, false, cond, not, ◌&&◌, ◌||◌, List, [], ◌∷◌, ◌++◌, map, length, take, set, replicate, Some, None, Option, nat_le, nat_lt, slice_index, slice_index_or, slice_set}
+use Rattle.std.specs.Prelude.{ℕ, suc, ◌+◌, min, Bool, true, false, cond, not, ◌&&◌, List, [], ◌∷◌, map, length, take, replicate, Some, None, Option, nat_le, nat_lt, slice_index, slice_index_or, slice_set}
 use Rattle.definitions.specs.Refusal.{Refusal, Verdict, accepted, refused}
 use Rattle.definitions.specs.Form.{Atom, same_word}
 use Rattle.definitions.specs.Lists.{joined, keep, upto}
@@ -14,7 +14,7 @@ use Rattle.definitions.specs.Holds.{holds as model}
 use Rattle.definitions.specs.Ruleset.{Game, roles}
 use Rattle.definitions.specs.Deal.{Deal, standing, among, state_where}
 use Rattle.definitions.specs.Knowledge.{index, in_match}
-use Rattle.definitions.specs.Play.{Turn, Play, nth, before, legal_moves, joint_moves, successors, start, knowledge, each_with, next_book, book, class_number, uneven}
+use Rattle.definitions.specs.Play.{Turn, Play, nth, before, legal_moves, joint_moves, successors, knowledge, each_with, next_book, book, class_number, uneven}
 
 pub record Table : Type 0 where
   pub game : Game

@@ -5,7 +5,7 @@
 --     book              the legal plays of a number of rounds, in order
 --     class_number      the number of a play's class for a role, by first appearance
 --     uneven            a player whose legal moves tell apart what he can't tell apart
-use Rattle.std.specs.Prelude.{◌≡◌, ℕ, zero, suc, ◌+◌, ◌%◌, ◌^◌, ◌<◌, Bool, true, false, cond, not, ◌&&◌, List, [], ◌∷◌, ◌++◌, map, length, Some, None, Decides, Option, MatchOption, ◌==◌, ◌≢◌, nat_lt, slice_index, slice_index_or}
+use Rattle.std.specs.Prelude.{◌≡◌, ℕ, zero, suc, ◌%◌, ◌^◌, ◌<◌, Bool, true, false, cond, not, ◌&&◌, List, [], ◌∷◌, ◌++◌, map, length, Some, None, Decides, Option, MatchOption, ◌==◌, ◌≢◌, nat_lt, slice_index, slice_index_or}
 use Rattle.definitions.specs.Form.{Atom, same_word, same_term}
 use Rattle.definitions.specs.Lists.{In, joined, keep, any, upto, firsts, first_like, FirstAppearance}
 use Rattle.definitions.specs.Level.{member}

@@ -4,7 +4,7 @@
 --     Game               what is played: counts, rules over numbers, the opening state
 --     game_verdict       the verdict on a text
 --     SoundGame         what an accepted game keeps to
-use Rattle.std.specs.Prelude.{◌≡◌, ℕ, ◌<◌, ◌≤◌, Bool, true, false, cond, not, List, [], ◌∷◌, ◌++◌, map, length, Some, None, codes, Option, slice_index_or}
+use Rattle.std.specs.Prelude.{◌≡◌, ℕ, ◌<◌, ◌≤◌, Bool, false, cond, not, List, [], ◌∷◌, ◌++◌, map, length, Some, None, codes, Option, slice_index_or}
 use Rattle.definitions.specs.Refusal.{Refusal, rules_layer, Verdict, accepted, refused}
 use Rattle.definitions.specs.Term.{Tree, none, ◌&◌, Term, Placed}
 use Rattle.definitions.specs.Term as terms

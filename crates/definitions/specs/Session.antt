@@ -2,8 +2,8 @@
 --     body_length, call_of  a record's body by its letter, and the call that it makes
 --     line                  the line of a record
 --     session               the lines of a session, from a game's text and the bytes that come in
-use Rattle.std.specs.Prelude.{ℕ, zero, suc, ◌+◌, ◌*◌, Bool, true, false, cond, List, [], ◌∷◌, ◌++◌, length, take, drop, Some, None, codes, decimal, Option, ◌==◌, nat_le, slice_index}
-use Rattle.definitions.specs.Refusal.{Refusal, Verdict, accepted, refused}
+use Rattle.std.specs.Prelude.{ℕ, zero, suc, ◌+◌, ◌*◌, true, false, cond, List, [], ◌∷◌, ◌++◌, length, take, drop, Some, None, codes, decimal, Option, ◌==◌, nat_le, slice_index}
+use Rattle.definitions.specs.Refusal.{Refusal, accepted, refused}
 use Rattle.definitions.specs.Ruleset.{Game, roles, game_verdict}
 use Rattle.definitions.specs.Deal.{opening}
 use Rattle.definitions.specs.Knowledge.{in_match}

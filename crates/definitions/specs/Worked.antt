@@ -1,8 +1,8 @@
 -- Worked positions: the coin table, and small texts, with what they come to.
 --     coin             the text of the coin table
 --     Worked           what its session prints, its first round, its hints, and the verdicts on the small texts
-use Rattle.std.specs.Prelude.{◌≡◌, ℕ, Bool, true, false, List, [], ◌∷◌, map, length, get_or, None, codes}
-use Rattle.definitions.specs.Refusal.{Verdict, accepted, refused, AtVerdict}
+use Rattle.std.specs.Prelude.{◌≡◌, ℕ, true, false, List, [], ◌∷◌, map, length, None, codes}
+use Rattle.definitions.specs.Refusal.{refused, AtVerdict}
 use Rattle.definitions.specs.Lists.{upto}
 use Rattle.definitions.specs.Form.{Atom}
 use Rattle.definitions.specs.Level.{member}

@@ -1,5 +1,6 @@
 // What the answers of a referee unit mean: the definitions are in specs/. Each function here has a theorem about them for its contract.
 #![tactic(auto)]
+
 ghost use Rattle.definitions.specs.Deal.{MadeLawful, SheetsDecided, SheetsRefused};
 ghost use Rattle.definitions.specs.Form.{KeywordsSpelt, ValuesDecimal, TermsAlike};
 ghost use Rattle.definitions.specs.Holds.{HoldsStandard, StandardOne, LevelLocal, WithoutKnowledge};

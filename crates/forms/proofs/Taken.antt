@@ -1,5 +1,5 @@
 -- A term and what follows its first word, taken apart by their tokens.
-use Rattle.std.proofs.Common.{◌≡◌, ℕ, ◌+◌, ◌-◌, ◌<◌, ◌≤◌, List, [], ◌∷◌, ◌++◌, map, length, get_or, take, drop, sym, refl, ap, ◌∙◌, arith, Bor}
+use Rattle.std.proofs.Common.{◌≡◌, ℕ, ◌-◌, ◌<◌, ◌≤◌, List, [], ◌∷◌, ◌++◌, map, length, get_or, take, drop, sym, refl, ap, ◌∙◌, arith, Bor}
 use Rattle.std.proofs.lemmas.List.{take-map, drop-map, take_at, drop_at, take_all, take_rest, length-map, length-append, length-drop}
 use Rattle.definitions.specs.Term.{Tree, Trees, none, ◌&◌}
 use Rattle.definitions.specs.Text as text

@@ -3,7 +3,7 @@ use Rattle.std.proofs.Common.{◌≡◌, ℕ, Bool, true, ◌&&◌, List, [], �
 use Rattle.std.proofs.lemmas.Bool.{cond-true, and_from}
 use Rattle.definitions.specs.Form as form
 use Rattle.definitions.specs.Form.{is_term, when, after, list, value, goal_of}
-use Rattle.definitions.specs.Term.{Tree, Trees, ◌&◌, Term, bare, bares}
+use Rattle.definitions.specs.Term.{Tree, Trees, Term, bare, bares}
 use Rattle.definitions.specs.Text.{flat}
 use Rattle.text.specs.declared.token.Token.{Token}
 use Rattle.text.specs.View.{token}

@@ -1,5 +1,6 @@
 // The forms of the language: which form the tokens of a term are, if they are one.
 #![tactic(auto)]
+
 mod atom;
 mod body;
 mod form;

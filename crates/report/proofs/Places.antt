@@ -1,8 +1,7 @@
 -- The lines of forms, from their tokens.
-use Rattle.std.proofs.Common.{◌≡◌, ℕ, ◌+◌, ◌-◌, ◌<◌, ◌≤◌, false, List, [], ◌∷◌, ◌++◌, map, length, get_or, take, drop, decimal, sym, refl, ap, ◌∙◌, subst, append_assoc, append-nil, arith, length-drop}
+use Rattle.std.proofs.Common.{◌≡◌, ℕ, ◌+◌, ◌-◌, ◌<◌, ◌≤◌, false, List, [], ◌∷◌, ◌++◌, map, length, get_or, take, drop, decimal, sym, refl, ap, ◌∙◌, append_assoc, append-nil, arith, length-drop}
 use Rattle.std.proofs.lemmas.List.{take-map, drop-map, take_at, drop_at, drop-drop, drop_all, take_rest, length-map, length-append}
-use Rattle.definitions.specs.Term.{Tree, Trees, none, ◌&◌, Placed}
-use Rattle.definitions.specs.Text as text
+use Rattle.definitions.specs.Term.{Tree, none, ◌&◌, Placed}
 use Rattle.definitions.specs.Text.{flat, flats}
 use Rattle.definitions.specs.Writing.{spelt}
 use Rattle.text.specs.declared.token.Token.{Token}

@@ -1,5 +1,6 @@
 // The lines that say what a rules text holds, or what is wrong and where.
 #![tactic(auto)]
+
 ghost use Rattle.std.specs.Prelude.{◌≡◌, ℕ, [], ◌++◌, map, OnOk};
 ghost use Rattle.definitions.specs.Term.{Tree, Placed};
 ghost use Rattle.definitions.specs.Text.{flat, flats};

@@ -1,5 +1,6 @@
 // Times the reading of a text: the words are FILE and TIMES, and what is printed is the nanoseconds of all TIMES readings.
 #![tactic(auto)]
+
 use anyhow::anyhow;
 use std::time::Instant;
 use std::{env, fs};

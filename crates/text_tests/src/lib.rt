@@ -1,5 +1,6 @@
 // Tests of the text layer: what is refused and where, the tokens of a text, and texts written out again.
 #![tactic(auto)]
+
 #[cfg(test)]
 mod tests {
     use std::alloc::{AllocError, Global};
@@ -247,9 +248,9 @@ mod tests {
             (b"( (a?b) ( ! ~ ) )", b"((a?b)(! ~))"),
             (b"((((((((a b))))))))", b"((((((((a b))))))))"),
         ];
-        for (i, case) in cases.iter().enumerate() {
-            let (text, written) = *case;
-            written_as(&rt, rt.alloc(), text, written).note(i)?;
+        for case in cases {
+            let (text, written) = case;
+            written_as(&rt, rt.alloc(), text, written)?;
         }
         Ok(())
     }
@@ -268,7 +269,7 @@ mod tests {
         ];
         let mut out = Vec::from_slice(rt.alloc(), b"x")?;
         write(&tokens, &mut out)?;
-        assert_eq!(rt; out.as_slice(), b"xa b");
+        assert_eq!(rt; out.as_slice(), b"xa b".as_slice());
         Ok(())
     }
 

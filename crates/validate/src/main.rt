@@ -1,5 +1,6 @@
 // Prints the forms of a rules file, one line each with the place where it starts, or what is wrong with it and where.
 #![tactic(auto)]
+
 use anyhow::anyhow;
 use report::report;
 use std::io::Write;

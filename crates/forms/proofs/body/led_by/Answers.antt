@@ -13,5 +13,5 @@ returns-in-None c = λ u is.
     let (p, q, ts, split, rest) = c.in-Pair.ensures u is in
     pair_unled c.in-Pair.w.now u p q ts split (sym c.in-None.ensures)
 
-pub returns-in-default : goal.returns-in-default
-returns-in-default c = λ u is. shape_unled c.shape_of.result u c.in-default.not-Pair (c.shape_of.ensures u is)
+pub returns-in_default : goal.returns-in_default
+returns-in_default c = λ u is. shape_unled c.shape_of.result u c.in_default.not-Pair (c.shape_of.ensures u is)

@@ -13,5 +13,5 @@ returns-in-Pair c = λ u is.
     ∙ pair_is c.in-Pair.w.now (bares ts)
     ∙ ap (λ t. literal (bare t)) (sym split)
 
-pub returns-in-default : goal.returns-in-default
-returns-in-default c = λ u is. c.bare_of.ensures u is ∙ unled c.shape_of.result u c.in-default.not-Pair (c.shape_of.ensures u is)
+pub returns-in_default : goal.returns-in_default
+returns-in_default c = λ u is. c.bare_of.ensures u is ∙ unled c.shape_of.result u c.in_default.not-Pair (c.shape_of.ensures u is)

@@ -10,10 +10,10 @@ pub returns-in-Word : goal.returns-in-Word
 returns-in-Word c = λ u is. word_shape c.args.term.now u _ _ c.in-Word.spelling c.in-Word.is is
 
 pub returns-then-term-lt3 : goal.returns-then-term-lt3
-returns-then-term-lt3 c = λ u is. short_shape c.args.term.now u _ c.in-default.not-Word c.if-term-lt3.true is
+returns-then-term-lt3 c = λ u is. short_shape c.args.term.now u _ c.in_default.not-Word c.if-term-lt3.true is
 
 pub returns-in-Word-term : goal.returns-in-Word-term
-returns-in-Word-term c = λ u is. pair_shape c.args.term.now u _ _ _ c.in-Word-term.spelling c.in-default.not-Word c.if-term-lt3.false c.in-Word-term.is is
+returns-in-Word-term c = λ u is. pair_shape c.args.term.now u _ _ _ c.in-Word-term.spelling c.in_default.not-Word c.if-term-lt3.false c.in-Word-term.is is
 
-pub returns-in-default-term : goal.returns-in-default-term
-returns-in-default-term c = λ u is. other_shape c.args.term.now u _ _ c.in-default.not-Word c.if-term-lt3.false c.in-default-term.not-Word is
+pub returns-in_default-term : goal.returns-in_default-term
+returns-in_default-term c = λ u is. other_shape c.args.term.now u _ _ c.in_default.not-Word c.if-term-lt3.false c.in_default-term.not-Word is
