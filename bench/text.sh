@@ -2,8 +2,8 @@
 # Times the reading of rules texts of 1, 8 and 32 KiB: bytes per second, and the growth of time from size to size.
 set -eu
 cd "$(dirname "$0")/.."
-rt check text_bench >/dev/null
-python3 - target/bin/text_bench <<'PY'
+(cd crates/text_bench && rt run >/dev/null 2>&1)
+python3 - crates/text_bench/out/text_bench <<'PY'
 import itertools
 import os
 import subprocess

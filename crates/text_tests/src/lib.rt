@@ -59,20 +59,26 @@ mod tests {
     }
 
     // The text reads as these tokens, places aside.
-    fn reads_as(rt: &impl Abort, heap: Global, text: &[u8], tokens: &[Token]) {
+    fn reads_as(rt: &impl Abort, i: usize, heap: Global, text: &[u8], tokens: &[Token]) {
         let mut forms = Forms::new(heap);
-        assert!(rt; forms.read(heap, text).is_ok());
-        assert!(rt; all_alike(forms.tokens(), tokens));
+        assert!(rt; forms.read(heap, text).is_ok(), "{}", i);
+        assert!(rt; all_alike(forms.tokens(), tokens), "{}", i);
     }
 
     // The forms of a text are written as these bytes, and the bytes read as the same tokens.
-    fn written_as(rt: &impl Abort, heap: Global, text: &[u8], written: &[u8]) -> Result<(), Fail> {
+    fn written_as(
+        rt: &impl Abort,
+        i: usize,
+        heap: Global,
+        text: &[u8],
+        written: &[u8],
+    ) -> Result<(), Fail> {
         let mut forms = Forms::new(heap);
-        assert!(rt; forms.read(heap, text).is_ok());
+        assert!(rt; forms.read(heap, text).is_ok(), "{}", i);
         let mut out = Vec::new(heap);
         write(forms.tokens(), &mut out)?;
-        assert_eq!(rt; out.as_slice(), written);
-        reads_as(rt, heap, out.as_slice(), forms.tokens());
+        assert_eq!(rt; out.as_slice(), written, "{}", i);
+        reads_as(rt, i, heap, out.as_slice(), forms.tokens());
         Ok(())
     }
 
@@ -248,9 +254,9 @@ mod tests {
             (b"( (a?b) ( ! ~ ) )", b"((a?b)(! ~))"),
             (b"((((((((a b))))))))", b"((((((((a b))))))))"),
         ];
-        for case in cases {
-            let (text, written) = case;
-            written_as(&rt, rt.alloc(), text, written)?;
+        for (i, case) in cases.iter().enumerate() {
+            let (text, written) = *case;
+            written_as(&rt, i, rt.alloc(), text, written)?;
         }
         Ok(())
     }
