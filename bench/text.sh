@@ -2,7 +2,7 @@
 # Times the reading of rules texts of 1, 8 and 32 KiB: bytes per second, and the growth of time from size to size.
 set -eu
 cd "$(dirname "$0")/.."
-(cd crates/text_bench && rt run >/dev/null 2>&1)
+(cd crates/text_bench && rt run >/dev/null)
 python3 - crates/text_bench/out/text_bench <<'PY'
 import itertools
 import os

@@ -3,7 +3,8 @@
 
 usage: python3 tools/respell.py [--check]      at the top of the repository, once, after port.py
 
-A name counts as the repository's own if a file of specs/ or proofs/ uses it and no library's import in that file brings it in.
+It turns the names that port.py left with a dash. A name counts as the repository's own if a file of specs/ or proofs/ uses
+it and no library's import in that file brings it in.
 Functions of src/, strings, and the names of goals and steps that Rattle makes stay. In comments and pages a name is
 turned where it stands in backticks, or in the index at the head of a file.
 """
@@ -14,7 +15,6 @@ import sys
 
 TOKEN = re.compile(r"[^\s(){}\[\].;,\"`]+")
 NAME = re.compile(r"^[A-Za-zℕ][^\s]*-[^\s]*$")
-OWN_PATH = re.compile(r"^\s*(?:ghost\s+)?use\s+Rattle\.(%s)\b")
 USE = re.compile(r"^\s*(?:pub\s+)?(?:ghost\s+)?use\s+([^{;]+?)(?:\.\{(.*)\})?;?\s*$")
 
 
@@ -40,11 +40,6 @@ def library(text):
             for it in m.group(2).split(","):
                 found.add(it.split(" as ")[-1].strip())
     return found
-
-
-def code(line):
-    """The line without its comment."""
-    return line.split("--")[0] if line.lstrip().startswith("--") or " -- " in line else line
 
 
 def used(text):

@@ -13,14 +13,14 @@ abbrev played : Play → List (List ℕ)
 played p = map (λ u. u.moves) p.turns
 
 -- q goes on from p with the joint moves js
-record Goes_on (p q : Play) (js : List (List ℕ)) : Type 0 where
+record GoesOn (p q : Play) (js : List (List ℕ)) : Type 0 where
   pub world : q.world ≡ p.world
   pub moves : played q ≡ played p ++ js
 
-stays : (p : Play) → Goes_on p p []
+stays : (p : Play) → GoesOn p p []
 stays p = record { world = refl; moves = sym (append-nil (played p)) }
 
-further : (p q r : Play) (js ks : List (List ℕ)) → Goes_on p q js → Goes_on q r ks → Goes_on p r (js ++ ks)
+further : (p q r : Play) (js ks : List (List ℕ)) → GoesOn p q js → GoesOn q r ks → GoesOn p r (js ++ ks)
 further p q r js ks a b = record { world = b.world ∙ a.world; moves = b.moves ∙ ap (λ l. l ++ ks) a.moves ∙ append_assoc (played p) js ks }
 
 module _ (t : Table) where
@@ -34,7 +34,7 @@ module _ (t : Table) where
 
   module _ (s : State) (h : Reached t s) where
     abbrev Leaves : Call → State × Answer → Type 0
-    Leaves c x = Goes_on (real_play t s) (real_play t x.0) (closes s c x.1)
+    Leaves c x = GoesOn (real_play t s) (real_play t x.0) (closes s c x.1)
 
     step_goes : (c : Call) → Leaves c (step t s c)
     step_goes (Call.commit r m) = commit_cases t s (Leaves (Call.commit r m)) (λ a. stays _) r m (λ e f. stays _)
@@ -52,7 +52,7 @@ module _ (t : Table) where
     step_goes (Call.goal r) = stays _
     step_goes Call.plays = stays _
 
-  end_goes : (s : State) (xs : List Request) → Reached t s → Goes_on (real_play t s) (real_play t (end t s xs)) (closing_moves t (trace t s xs))
+  end_goes : (s : State) (xs : List Request) → Reached t s → GoesOn (real_play t s) (real_play t (end t s xs)) (closing_moves t (trace t s xs))
   end_goes s [] h = stays _
   end_goes s (x ∷ xs) h =
       let next = step t s (call x) in

@@ -1,10 +1,10 @@
 -- Knowledge: what holds in all worlds that a role can't tell from one, and what holds in all that chains of such steps reach.
---     Frame          worlds by number, with their states and what each role can't tell apart
---     Chain          steps of the roles, one after another
---     Knowledge      a knows atom is in a world's set exactly if its fact holds where it must
---     knowing        the function that computes it, by rising level
---     hinted         the deal that is left when a fact is announced
---     hint_verdict, row_after    what a hint is refused with, and its work row afterwards
+--     Frame                    worlds by number, with their states and what each role can't tell apart
+--     Chain                    steps of the roles, one after another
+--     Knowledge                a knows atom is in a world's set exactly if its fact holds where it must
+--     knowing                  the function that computes it, by rising level
+--     hinted                   the deal that is left when a fact is announced
+--     hint_verdict, row_after  what a hint is refused with, and its work row afterwards
 use Rattle.std.specs.Prelude.{◌≡◌, ℕ, suc, ◌<◌, Bool, true, cond, not, ◌&&◌, ◌||◌, List, [], ◌∷◌, ◌++◌, map, length, get_or, drop, replicate, None, Decides, ◌==◌, nat_le, nat_lt, slice_index, slice_index_or}
 use Rattle.definitions.specs.Refusal.{Refusal, match_layer, Verdict, accepted, refused}
 use Rattle.definitions.specs.Form.{Atom}

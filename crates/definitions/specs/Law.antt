@@ -1,13 +1,13 @@
 -- The law over runs: what every list of calls on a dealt match comes to.
---     Request             a call, and whether a seat or the host makes it
---     trace               a run: each request with the state that it met and its answer
---     calls_of, answers_of     what a seat called and was answered while a number of rounds was closed
---     OwnPlayAlone      a seat's answers hang on its own play alone
---     KnownExactly       known is answered exactly if the fact holds in every legal play that the seat can't tell from the real one
---     EitherOrder        two facts that rest on no knowledge can be hinted in either order
---     RealAsCommitted   the real play has the real world and the moves committed at each accepted close
---     Means, StatesMean  what calls look at is what holds and is known in the real play, among the legal plays
---     Referees            all of it together, for every game, deal and list of requests
+--     Request               a call, and whether a seat or the host makes it
+--     trace                 a run: each request with the state that it met and its answer
+--     calls_of, answers_of  what a seat called and was answered while a number of rounds was closed
+--     OwnPlayAlone          a seat's answers hang on its own play alone
+--     KnownExactly          known is answered exactly if the fact holds in every legal play that the seat can't tell from the real one
+--     EitherOrder           two facts that rest on no knowledge can be hinted in either order
+--     RealAsCommitted       the real play has the real world and the moves committed at each accepted close
+--     Means, StatesMean     what calls look at is what holds and is known in the real play, among the legal plays
+--     Referees              all of it together, for every game, deal and list of requests
 use Rattle.std.specs.Prelude.{◌≡◌, ℕ, ◌+◌, ◌<◌, ◌≤◌, Bool, true, false, ◌&&◌, List, [], ◌∷◌, map, length, Decides, ◌==◌, slice_index, slice_index_or}
 use Rattle.definitions.specs.Lists.{In, any, keep}
 use Rattle.definitions.specs.Refusal.{Verdict, accepted, refused}

@@ -1,10 +1,10 @@
 -- Words on lists that the other definitions use.
---     In                   an element of a list
---     joined, keep         lists joined, and the elements that pass a test
---     all, any, most       every element passes, one does, the largest value
---     upto, repeat         the numbers below n, and a step taken n times
---     firsts               a list without repeats, each element where it appears first
---     FirstAppearance     what such a list is
+--     In               an element of a list
+--     joined, keep     lists joined, and the elements that pass a test
+--     all, any, most   every element passes, one does, the largest value
+--     upto, repeat     the numbers below n, and a step taken n times
+--     firsts           a list without repeats, each element where it appears first
+--     FirstAppearance  what such a list is
 use Rattle.std.specs.Prelude.{◌≡◌, ℕ, zero, suc, ◌+◌, ◌<◌, max, Bool, true, false, cond, not, ◌&&◌, ◌||◌, List, [], ◌∷◌, ◌++◌, length, slice_index_or}
 
 pub data In {X : Type 0} (x : X) : List X → Type 0 where

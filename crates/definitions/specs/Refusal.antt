@@ -1,8 +1,8 @@
 -- What a refusal says, and what a judgement of some input comes to.
---     Layer         the layer that refuses
---     Refusal       its number, layer and place
---     Verdict X     accepted, with what was found, or refused
---     AtVerdict    a fact of what was found, or of the refusal
+--     Layer      the layer that refuses
+--     Refusal    its number, layer and place
+--     Verdict X  accepted, with what was found, or refused
+--     AtVerdict  a fact of what was found, or of the refusal
 use Rattle.std.specs.Prelude.{ℕ}
 
 pub data Layer : Type 0 where

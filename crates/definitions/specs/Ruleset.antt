@@ -1,9 +1,9 @@
 -- The verdict on a text as rules, and the game that accepted rules are.
---     Ruled              a form with its place
---     forms_verdict      the forms in order: broken ones and counts
---     Game               what is played: counts, rules over numbers, the opening state
---     game_verdict       the verdict on a text
---     SoundGame         what an accepted game keeps to
+--     Ruled          a form with its place
+--     forms_verdict  the forms in order: broken ones and counts
+--     Game           what is played: counts, rules over numbers, the opening state
+--     game_verdict   the verdict on a text
+--     SoundGame      what an accepted game keeps to
 use Rattle.std.specs.Prelude.{◌≡◌, ℕ, ◌<◌, ◌≤◌, Bool, false, cond, not, List, [], ◌∷◌, ◌++◌, map, length, Some, None, codes, Option, slice_index_or}
 use Rattle.definitions.specs.Refusal.{Refusal, rules_layer, Verdict, accepted, refused}
 use Rattle.definitions.specs.Term.{Tree, none, ◌&◌, Term, Placed}

@@ -1,7 +1,7 @@
 -- What rules and forms over tokens stand for in the definitions.
---     Declared      the only term of a declaration, whatever is declared by it
---     Stands        a rule has the head and the parts of a rule of the definitions
---     FormIs       a form stands for a form of the definitions, or the term is none, or memory is wanting
+--     Declared  the only term of a declaration, whatever is declared by it
+--     Stands    a rule has the head and the parts of a rule of the definitions
+--     FormIs    a form stands for a form of the definitions, or the term is none, or memory is wanting
 use Rattle.std.specs.Prelude.{◌≡◌, List, [], Some, None, Ok, Err, Option, Result}
 use Rattle.std.specs.Borrow.{Bor}
 use Rattle.std.specs.Option.{option_map}

@@ -1,9 +1,9 @@
 -- What a `Nest` holds, and what its calls come to.
---     places, fresh   the places of the open brackets, and whether the innermost has no term yet
---     Nests       it holds the tokens of these levels, these places and this mark
---     Tells       the fault is what the step stops with, or want of memory
---     Nested      the call made the step that the definitions give
---     Ended       the call gave the verdict on what was read
+--     places, fresh  the places of the open brackets, and whether the innermost has no term yet
+--     Nests          it holds the tokens of these levels, these places and this mark
+--     Tells          the fault is what the step stops with, or want of memory
+--     Nested         the call made the step that the definitions give
+--     Ended          the call gave the verdict on what was read
 use Rattle.std.specs.Prelude.{◌≡◌, ℕ, Bool, true, false, List, [], ◌∷◌, ◌++◌, map, IfSome, Ok, Err, vec_items, Result}
 use Rattle.definitions.specs.Refusal.{Verdict, accepted, refused}
 use Rattle.definitions.specs.Term.{Placed, none, ◌&◌}

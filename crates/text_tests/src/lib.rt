@@ -4,7 +4,6 @@
 #[cfg(test)]
 mod tests {
     use std::alloc::{AllocError, Global};
-    use std::process::Abort;
     use std::test::Fail;
     use text::{Forms, TextFault, Token, term_len, write};
 
@@ -59,27 +58,18 @@ mod tests {
     }
 
     // The text reads as these tokens, places aside.
-    fn reads_as(rt: &impl Abort, i: usize, heap: Global, text: &[u8], tokens: &[Token]) {
+    fn reads_as(heap: Global, text: &[u8], tokens: &[Token]) -> bool {
         let mut forms = Forms::new(heap);
-        assert!(rt; forms.read(heap, text).is_ok(), "{}", i);
-        assert!(rt; all_alike(forms.tokens(), tokens), "{}", i);
+        forms.read(heap, text).is_ok() && all_alike(forms.tokens(), tokens)
     }
 
     // The forms of a text are written as these bytes, and the bytes read as the same tokens.
-    fn written_as(
-        rt: &impl Abort,
-        i: usize,
-        heap: Global,
-        text: &[u8],
-        written: &[u8],
-    ) -> Result<(), Fail> {
+    fn written_as(heap: Global, text: &[u8], written: &[u8]) -> Result<bool, AllocError> {
         let mut forms = Forms::new(heap);
-        assert!(rt; forms.read(heap, text).is_ok(), "{}", i);
+        let read = forms.read(heap, text).is_ok();
         let mut out = Vec::new(heap);
         write(forms.tokens(), &mut out)?;
-        assert_eq!(rt; out.as_slice(), written, "{}", i);
-        reads_as(rt, i, heap, out.as_slice(), forms.tokens());
-        Ok(())
+        Ok(read && out.as_slice() == written && reads_as(heap, out.as_slice(), forms.tokens()))
     }
 
     #[test]
@@ -256,7 +246,7 @@ mod tests {
         ];
         for (i, case) in cases.iter().enumerate() {
             let (text, written) = *case;
-            written_as(&rt, i, rt.alloc(), text, written)?;
+            assert!(rt; written_as(rt.alloc(), text, written)?, "{}", i);
         }
         Ok(())
     }
