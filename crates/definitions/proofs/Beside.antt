@@ -4,7 +4,7 @@ use Rattle.definitions.specs.Form.{Atom}
 use Rattle.definitions.specs.Lists.{In, here, there}
 use Rattle.definitions.specs.Ruleset.{Game}
 use Rattle.definitions.specs.Play.{Play, no_play, nth, each_with}
-use Rattle.definitions.proofs.Elements.{getD_in, in_cases}
+use Rattle.definitions.proofs.Elements.{get_or_in, in_cases}
 use Rattle.definitions.proofs.Pairwise.{Pairwise}
 
 module _ (g : Game) {X : Type 0} (f : Play → List (Atom ℕ) → X) where
@@ -26,6 +26,6 @@ module _ (g : Game) {X : Type 0} (f : Play → List (Atom ℕ) → X) where
   pairwise_each R S step [] Ks h = tt
   pairwise_each R S step (p ∷ ps) [] h = tt
   pairwise_each R S step (p ∷ ps) (K ∷ Ks) h = (
-    (λ x i. let r = each_in ps Ks i in subst (S (f p K)) (sym r.2) (step p _ K _ (h.0 _ (getD_in ps r.0 no_play r.1)))),
+    (λ x i. let r = each_in ps Ks i in subst (S (f p K)) (sym r.2) (step p _ K _ (h.0 _ (get_or_in ps r.0 no_play r.1)))),
     pairwise_each R S step ps Ks h.1,
   )

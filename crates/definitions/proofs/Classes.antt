@@ -5,7 +5,7 @@ use Rattle.definitions.specs.Lists.{Same, joined, any, firsts}
 use Rattle.definitions.specs.Deal.{Deal}
 use Rattle.definitions.specs.Play.{Turn, Play, turns_alike, alike, nth, no_play, ClassesTell, ClassesByFirstAppearance, ClassesNumbered}
 use Rattle.definitions.proofs.Deciding.{decides_never, same_by_key}
-use Rattle.definitions.proofs.Elements.{getD_in}
+use Rattle.definitions.proofs.Elements.{get_or_in}
 use Rattle.definitions.proofs.Firsts.{like_place, like_tells, every_found, firsts_are_first}
 
 -- the moves of a role and what it saw, and with its first class all that it can tell plays apart by
@@ -37,12 +37,12 @@ classes_tell d r ps i j h k = like_tells (alike d r) laws (firsts (alike d r) ps
     laws = alike_same d r
 
     found : (n : ℕ) → n < length ps → any (λ q. alike d r q (nth ps n)) (firsts (alike d r) ps) ≡ true
-    found n h = every_found (alike d r) laws ps (nth ps n) (getD_in ps n no_play h)
+    found n h = every_found (alike d r) laws ps (nth ps n) (get_or_in ps n no_play h)
 
 pub classes_by_first_appearance : ClassesByFirstAppearance
 classes_by_first_appearance d r = firsts_are_first (alike d r) (alike_same d r)
 
 pub classes_numbered : ClassesNumbered
 classes_numbered d r ps i low =
-    let found = like_place (alike d r) (firsts (alike d r) ps) (nth ps i) (every_found (alike d r) (alike_same d r) ps (nth ps i) (getD_in ps i no_play low)) in
+    let found = like_place (alike d r) (firsts (alike d r) ps) (nth ps i) (every_found (alike d r) (alike_same d r) ps (nth ps i) (get_or_in ps i no_play low)) in
     (found.0, found.1 no_play)

@@ -13,7 +13,7 @@ use Rattle.definitions.specs.Play.{no_play, nth, frame, start, knowledge, book, 
 use Rattle.definitions.specs.Match.{Table, State, Answer, real_knowledge, first_state, even_state, deal_match, asked_of}
 use Rattle.definitions.specs.Law.{IsGame, end, on, BothAnswer, CommonFirst, Hinted, EitherOrder}
 use Rattle.definitions.proofs.Listed.{in_keep}
-use Rattle.definitions.proofs.Elements.{getD_in}
+use Rattle.definitions.proofs.Elements.{get_or_in}
 use Rattle.definitions.proofs.Upto.{map_in}
 use Rattle.definitions.proofs.Chains.{chain_below}
 use Rattle.definitions.proofs.Knowing.{knowing_knows}
@@ -27,7 +27,7 @@ use Rattle.definitions.proofs.Unclosed.{unclosed_plays}
 module _ (g : Game) (is : IsGame g) (p : ℕ) (small : p < length g.names.facts) (free : rests_on_knowledge g.rules p ≡ false) (d : Deal) (real : In d.seats.real (standing d)) (shown : (w : ℕ) → In w (standing d) → plainly g p (d.deck.state w) ≡ true) where
   play_shows : (i : ℕ) → i < length (book g d 0) → plainly g p (nth (book g d 0) i).state ≡ true
   play_shows i low =
-      let (w, stands, same) = map_in (start g d) (standing d) (getD_in (book g d 0) i no_play low) in
+      let (w, stands, same) = map_in (start g d) (standing d) (get_or_in (book g d 0) i no_play low) in
       ap (λ q. plainly g p q.state) same ∙ holds_short g (accepted_features is.0 g is.1) (d.deck.state w) None [] p ∙ shown w stands
 
   first_common : member (get_or (knowledge g d (book g d 0)) (index (standing d) d.seats.real) []) (Atom.common p) ≡ true

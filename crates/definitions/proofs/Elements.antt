@@ -11,10 +11,10 @@ pub in_first : {X : Type 0} {x y : X} (ys : List X) → x ≡ y → In x (y ∷ 
 in_first {x = x} ys e = subst (λ z. In x (z ∷ ys)) e here
 
 -- places
-pub getD_in : {X : Type 0} (xs : List X) (i : ℕ) (d : X) → i < length xs → In (get_or xs i d) xs
-getD_in [] i d h = absurd (omega arith)
-getD_in (x ∷ xs) zero d h = here
-getD_in (x ∷ xs) (suc i) d h = there (getD_in xs i d (omega arith))
+pub get_or_in : {X : Type 0} (xs : List X) (i : ℕ) (d : X) → i < length xs → In (get_or xs i d) xs
+get_or_in [] i d h = absurd (omega arith)
+get_or_in (x ∷ xs) zero d h = here
+get_or_in (x ∷ xs) (suc i) d h = there (get_or_in xs i d (omega arith))
 
 pub in_place : {X : Type 0} {x : X} {xs : List X} → In x xs → (i : ℕ) × (i < length xs) × ((d : X) → get_or xs i d ≡ x)
 in_place here = (0, omega arith, λ d. refl)

@@ -6,7 +6,7 @@ use Rattle.definitions.specs.Lists.{In, here, there, upto}
 use Rattle.definitions.specs.Ruleset.{Game, roles}
 use Rattle.definitions.specs.Play.{Play, legal_moves, joint, joint_moves, LegalIn}
 use Rattle.definitions.proofs.Listed.{in_joined, joined_in}
-use Rattle.definitions.proofs.Upto.{map_in, in_map, length_upto, getD_map_upto}
+use Rattle.definitions.proofs.Upto.{map_in, in_map, length_upto, get_or_map_upto}
 use Rattle.definitions.proofs.Pairwise.{Pairwise, pairwise_like}
 use Rattle.definitions.proofs.Repeats.{pairwise_map, pairwise_joined, kept_once}
 
@@ -60,7 +60,7 @@ module _ (g : Game) where
     lists_long = length-map (upto (roles g)) (legal_moves g p K) ∙ length_upto (roles g)
 
     lists_each : (r : ℕ) → r < roles g → get_or lists r [] ≡ legal_moves g p K r
-    lists_each r low = getD_map_upto (legal_moves g p K) (roles g) r [] low
+    lists_each r low = get_or_map_upto (legal_moves g p K) (roles g) r [] low
 
     pub joint_legal : (ms : List ℕ) → In ms (joint_moves g p K) → LegalIn g p K ms
     joint_legal ms i =

@@ -11,7 +11,7 @@ use Rattle.definitions.specs.Ruleset.{Game, roles}
 use Rattle.definitions.specs.Knowledge.{Frame, Chain, position, truths, chained, true_in, known_in, deeper}
 use Rattle.definitions.proofs.Listed.{in_left, in_right, in_append, in_joined, joined_in, in_keep, keep_in, all_decides}
 use Rattle.definitions.proofs.Atoms.{member_decides}
-use Rattle.definitions.proofs.Upto.{map_in, in_map, upto_in, in_upto, getD_map_upto, among_decides}
+use Rattle.definitions.proofs.Upto.{map_in, in_map, upto_in, in_upto, get_or_map_upto, among_decides}
 use Rattle.definitions.proofs.Chains.{chain_below, chained_decides}
 
 -- the number of a game's facts
@@ -73,13 +73,13 @@ module _ (g : Game) (f : Frame) where
   true_in_decides : (K : List (List (Atom ℕ))) (p v : ℕ) → p < facts g → v < f.size → Decides (true_in g f (truths g f K) p v) (TrueAt (rows K) p v)
   true_in_decides K p v few low =
       let test : ℕ → Bool = λ q. holds g.rules (position f (rows K) v) (Atom.fact q) in
-      let row : get_or (truths g f K) v [] ≡ keep test (upto (facts g)) = getD_map_upto _ f.size v [] low in
+      let row : get_or (truths g f K) v [] ≡ keep test (upto (facts g)) = get_or_map_upto _ f.size v [] low in
       Decides-at _ _ (ap (λ ts. among ts p) row)
       (Decides-like _ (λ i. (keep_in test (upto (facts g)) i).1) (λ e. in_keep test (in_upto few) e) (among_decides (keep test (upto (facts g))) p))
 
   module _ (K : List (List (Atom ℕ))) (w : ℕ) (low : w < f.size) where
     row_known : rows (deeper g f K) w ≡ known_in g f (truths g f K) w
-    row_known = getD_map_upto (known_in g f (truths g f K)) f.size w [] low
+    row_known = get_or_map_upto (known_in g f (truths g f K)) f.size w [] low
 
     own_known : (r p : ℕ) → r < roles g → p < facts g → Decides (member (rows (deeper g f K) w) (Atom.knows r p)) ((v : ℕ) → v < f.size → f.alike r w v ≡ true → TrueAt (rows K) p v)
     own_known r p few small =

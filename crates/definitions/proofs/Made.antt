@@ -7,7 +7,7 @@ use Rattle.definitions.specs.Lists.{In, here, there, joined, from_to, upto}
 use Rattle.definitions.specs.Ruleset.{Game, game_verdict}
 use Rattle.definitions.specs.Deal.{Deal, Lawful, among, state_where, opening, Record, big_endian, pairs, sheet_deal, sheet_verdict, Laid, laid_bytes, worlds_in, SheetOf, MadeLawful}
 use Rattle.definitions.proofs.Listed.{either_in, in_left, in_right, in_joined, joined_in}
-use Rattle.definitions.proofs.Elements.{getD_in}
+use Rattle.definitions.proofs.Elements.{get_or_in}
 use Rattle.definitions.proofs.Accepted.{accepted_sound}
 use Rattle.definitions.proofs.Noted.{worlds_of}
 use Rattle.definitions.proofs.Sheets.{sheets_decided}
@@ -111,7 +111,7 @@ worlds_lawful ws r few low each = record {
 }
   where
     nth : (w : ℕ) → World (get_or ws w (0, []))
-    nth w = ⊎_elim (λ l. each _ (getD_in ws w (0, []) l)) (λ l. rw (get_or_past ws w (0, []) l) world_blank) (cases_lt w (length ws))
+    nth w = ⊎_elim (λ l. each _ (get_or_in ws w (0, []) l)) (λ l. rw (get_or_past ws w (0, []) l) world_blank) (cases_lt w (length ws))
 
 sheet_lawful : (bs : List ℕ) (d : Deal) → ((i : ℕ) → get_or bs i 0 < 256) → sheet_verdict bs ≡ accepted d → Lawful d
 sheet_lawful bs d h e =

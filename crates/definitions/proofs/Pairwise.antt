@@ -2,7 +2,7 @@
 use Rattle.std.proofs.Common.{ℕ, zero, suc, ◌<◌, Bool, List, [], ◌∷◌, length, get_or, subst, arith}
 use Rattle.std.proofs.lemmas.Bool.{cond_both}
 use Rattle.definitions.specs.Lists.{In, here, there, keep}
-use Rattle.definitions.proofs.Elements.{getD_in, in_place, kept_in}
+use Rattle.definitions.proofs.Elements.{get_or_in, in_place, kept_in}
 
 abbrev pub Pairwise : {X : Type 0} → (X → X → Type 0) → List X → Type 0
 Pairwise R [] = Unit {0}
@@ -23,7 +23,7 @@ module _ {X : Type 0} (R : X → X → Type 0) where
   pub pairwise_places : (xs : List X) → Pairwise R xs → (d : X) (i j : ℕ) → i < j → j < length xs → R (get_or xs i d) (get_or xs j d)
   pairwise_places [] h d i j l m = absurd (omega arith)
   pairwise_places (x ∷ xs) h d i zero l m = absurd (omega arith)
-  pairwise_places (x ∷ xs) h d zero (suc j) l m = h.0 _ (getD_in xs j d (omega arith))
+  pairwise_places (x ∷ xs) h d zero (suc j) l m = h.0 _ (get_or_in xs j d (omega arith))
   pairwise_places (x ∷ xs) h d (suc i) (suc j) l m = pairwise_places xs h.1 d i j (omega arith) (omega arith)
 
   pub places_pairwise : (xs : List X) → ((d : X) (i j : ℕ) → i < j → j < length xs → R (get_or xs i d) (get_or xs j d)) → Pairwise R xs

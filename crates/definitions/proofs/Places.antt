@@ -6,7 +6,7 @@ use Rattle.definitions.specs.Lists.{In, first_like}
 use Rattle.definitions.specs.Ruleset.{Game}
 use Rattle.definitions.specs.Deal.{Deal}
 use Rattle.definitions.specs.Play.{Play, no_play, nth, knowledge, book, same_play, in_book, book_knowledge}
-use Rattle.definitions.proofs.Elements.{getD_in, in_any}
+use Rattle.definitions.proofs.Elements.{get_or_in, in_any}
 use Rattle.definitions.proofs.Firsts.{like_place}
 use Rattle.definitions.proofs.Plays.{same_play_decides, same_play_laws}
 use Rattle.definitions.proofs.Once.{plays_once}
@@ -32,11 +32,11 @@ module _ (g : Game) (d : Deal) (n : ℕ) where
     at_place = (same_play_decides _ p).0 ((like_place same_play plays p l).1 no_play)
 
     pub found : In p plays
-    found = subst (λ q. In q plays) at_place (getD_in plays (place p) no_play place_below)
+    found = subst (λ q. In q plays) at_place (get_or_in plays (place p) no_play place_below)
 
   module _ (i : ℕ) (low : i < length plays) where
     pub nth_listed : in_book g d n (nth plays i) ≡ true
-    nth_listed = listed (nth plays i) (getD_in plays i no_play low)
+    nth_listed = listed (nth plays i) (get_or_in plays i no_play low)
 
     place_nth : place (nth plays i) ≡ i
     place_nth =

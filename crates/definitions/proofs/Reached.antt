@@ -8,7 +8,7 @@ use Rattle.definitions.specs.Play.{Play, no_play, frame, after, joint_moves, suc
 use Rattle.definitions.specs.Match.{Table, State, Call, commit, retract, close, tell, moves, known, common, rounds, holds, terminal, goal, plays, real_knowledge, real_play, own_moves, committed, missing, chosen, next_real, closed_with, step}
 use Rattle.definitions.specs.Law.{Request, call, end}
 use Rattle.definitions.proofs.Elements.{in_cases}
-use Rattle.definitions.proofs.Upto.{in_upto, length_upto, getD_map_upto, among_decides}
+use Rattle.definitions.proofs.Upto.{in_upto, length_upto, get_or_map_upto, among_decides}
 use Rattle.definitions.proofs.Joint.{legal_joint}
 use Rattle.definitions.proofs.Evenness.{knowing_length}
 use Rattle.definitions.proofs.Positions.{HoldsAt, position_at, follow_at}
@@ -57,7 +57,7 @@ module _ (t : Table) (s : State) where
   move_of o = elim o [ None ↦ 0 | Some m ↦ m ]
 
   pub chosen_move : (r m : ℕ) → r < roles g → committed t s r ≡ Some m → get_or (chosen t s) r 0 ≡ m
-  chosen_move r m few e = getD_map_upto (λ q. move_of (committed t s q)) (roles g) r 0 few ∙ ap move_of e
+  chosen_move r m few e = get_or_map_upto (λ q. move_of (committed t s q)) (roles g) r 0 few ∙ ap move_of e
 
   module _ (h : Reached t s) (full : missing t s (upto (roles g)) ≡ None) where
     chosen_legal : LegalIn g (real_play t s) (real_knowledge t s) (chosen t s)

@@ -37,14 +37,14 @@ length_from_to a (suc n) = ap suc (length_from_to (a + 1) n)
 pub length_upto : (n : ℕ) → length (upto n) ≡ n
 length_upto n = length_from_to 0 n
 
-getD_from_to : (a n i : ℕ) → i < n → get_or (from_to a n) i 0 ≡ a + i
-getD_from_to a zero i h = absurd (omega arith)
-getD_from_to a (suc n) zero h = omega arith
-getD_from_to a (suc n) (suc i) h = let k = getD_from_to (a + 1) n i (omega arith) in omega arith
+get_or_from_to : (a n i : ℕ) → i < n → get_or (from_to a n) i 0 ≡ a + i
+get_or_from_to a zero i h = absurd (omega arith)
+get_or_from_to a (suc n) zero h = omega arith
+get_or_from_to a (suc n) (suc i) h = let k = get_or_from_to (a + 1) n i (omega arith) in omega arith
 
-pub getD_map_upto : {Y : Type 0} (f : ℕ → Y) (n i : ℕ) (d : Y) → i < n → get_or (map f (upto n)) i d ≡ f i
-getD_map_upto f n i d h =
-    let e : get_or (upto n) i 0 ≡ i = omega (arith, getD_from_to 0 n i h) in
+pub get_or_map_upto : {Y : Type 0} (f : ℕ → Y) (n i : ℕ) (d : Y) → i < n → get_or (map f (upto n)) i d ≡ f i
+get_or_map_upto f n i d h =
+    let e : get_or (upto n) i 0 ≡ i = omega (arith, get_or_from_to 0 n i h) in
     get_or-map f (upto n) i 0 d (omega (arith, length_upto n)) ∙ ap f e
 
 pub among_decides : (xs : List ℕ) (n : ℕ) → Decides (among xs n) (In n xs)
