@@ -1,5 +1,5 @@
 -- Tokens that are alike but for their places spell terms that are the same but for their places.
-use Rattle.std.proofs.Common.{◌≡◌, ℕ, suc, List, [], ◌∷◌, ◌++◌, refl, ap, ◌∙◌, append_assoc, arith}
+use Rattle.std.proofs.Common.{◌≡◌, ℕ, suc, List, [], ◌∷◌, ◌++◌, refl, ap, ◌∙◌, append_assoc}
 use Rattle.definitions.specs.Term.{Tree, Trees, none, ◌&◌, Placed, bares, Filled, Fits}
 use Rattle.definitions.specs.Text.{Token, flats}
 
@@ -20,7 +20,7 @@ pub record Again (ts : Placed) (rest xs : List Token) : Type 0 where
 
 filled_again : (us ts : Placed) → bares us ≡ bares ts → Filled ts → Filled us
 filled_again none none e h = h
-filled_again none (t & ts) e h = let z : ◌≡◌ {A = ℕ} 0 1 = cc in omega arith
+filled_again none (t & ts) e h = cc
 filled_again (u & us) ts e h = tt
 
 pub none_left : (xs : List Token) → Alike xs [] → xs ≡ []

@@ -13,7 +13,7 @@ use Rattle.definitions.proofs.Sameview.{view_same, no_turn, alike_after}
 
 quiet_both : (es fs : List Event) → es ≡ [] → calls_in es ≡ calls_in fs → answers_in es ≡ answers_in fs
 quiet_both es [] e f = ap answers_in e
-quiet_both es (x ∷ fs) e f = let g = ap calls_in e in let z : ◌≡◌ {A = ℕ} 0 1 = cc in absurd (omega arith)
+quiet_both es (x ∷ fs) e f = let g = ap calls_in e in cc
 
 module _ (t : Table) (r : ℕ) where
   pub record Pair (s v : State) (xs ys : List Request) : Type 0 where

@@ -32,7 +32,7 @@ module _ (t : Table) (w : ℕ) (stands : In w (standing t.deal)) where
     booked = refl;
     low = begun_at.below;
     eight = refl;
-    legal = λ r m few e. let f = none_noted 8 r in let z : ◌≡◌ {A = ℕ} 0 1 = cc in absurd (omega arith);
+    legal = λ r m few e. let f = none_noted 8 r in cc;
     even = even;
     rounds = ap (λ p. length p.turns) begun_play;
   }
@@ -44,11 +44,11 @@ dealt t s =
     cond_both (leb (length first.plays) t.places) (even_state t (uneven t.game t.deal first.plays) first) (refused (in_match 12 0))
     (λ v. v ≡ accepted s → (s ≡ first) × (uneven t.game t.deal first.plays ≡ None))
     (λ e. go (uneven t.game t.deal first.plays))
-    (λ e f. let z : ◌≡◌ {A = ℕ} 0 1 = cc in absurd (omega arith))
+    (λ e f. cc)
   where
     go : (o : Option ℕ) → even_state t o (begun t t.deal.seats.real) ≡ accepted s → (s ≡ begun t t.deal.seats.real) × (o ≡ None)
     go None e = (cc, refl)
-    go (Some r) e = let z : ◌≡◌ {A = ℕ} 0 1 = cc in absurd (omega arith)
+    go (Some r) e = cc
 
 pub dealt_reached : (t : Table) (s : State) → Lawful t.deal → deal_match t ≡ accepted s → Reached t s
 dealt_reached t s lawful e = let (same, even) = dealt t s e in subst (Reached t) (sym same) (begun_reached t t.deal.seats.real (real_stands t.deal lawful) even)

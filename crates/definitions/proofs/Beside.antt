@@ -4,14 +4,15 @@ use Rattle.definitions.specs.Form.{Atom}
 use Rattle.definitions.specs.Lists.{In, here, there}
 use Rattle.definitions.specs.Ruleset.{Game}
 use Rattle.definitions.specs.Play.{Play, no_play, nth, each_with}
-use Rattle.definitions.proofs.Elements.{get_or_in, in_cases}
+use Rattle.definitions.proofs.Listed.{either_in}
+use Rattle.definitions.proofs.Elements.{get_or_in}
 use Rattle.definitions.proofs.Pairwise.{Pairwise}
 
 module _ (g : Game) {X : Type 0} (f : Play → List (Atom ℕ) → X) where
   pub each_in : {x : X} (ps : List Play) (Ks : List (List (Atom ℕ))) → In x (each_with g f ps Ks) → (i : ℕ) × (i < length ps) × (x ≡ f (nth ps i) (get_or Ks i []))
   each_in [] Ks i = elim i [ ]
   each_in (p ∷ ps) [] i = elim i [ ]
-  each_in {x} (p ∷ ps) (K ∷ Ks) i = ⊎_elim (λ e. (0, omega arith, e)) (λ j. further (each_in ps Ks j)) (in_cases i)
+  each_in {x} (p ∷ ps) (K ∷ Ks) i = ⊎_elim (λ e. (0, omega arith, sym e)) (λ j. further (each_in ps Ks j)) (either_in i)
     where
       further : (i : ℕ) × (i < length ps) × (x ≡ f (nth ps i) (get_or Ks i [])) → (i : ℕ) × (i < suc (length ps)) × (x ≡ f (nth (p ∷ ps) i) (get_or (K ∷ Ks) i []))
       further r = (suc r.0, omega (arith, r.1), r.2)

@@ -1,12 +1,13 @@
 -- The worlds that are reached from a world are those that chains lead to.
 use Rattle.std.proofs.Common.{◌≡◌, ℕ, ◌<◌, true, ◌||◌, ◌⊎◌, List, [], ◌∷◌, Decides, inl, inr, ⊎_elim, arith}
+use Rattle.std.proofs.lemmas.List.FromFn.{length-range_with_len}
 use Rattle.std.proofs.lemmas.Bool.Decides.{Decides-like, Decides-or}
 use Rattle.definitions.specs.Lists.{In, here, there, any, upto}
 use Rattle.definitions.specs.Deal.{among}
 use Rattle.definitions.specs.Ruleset.{Game, roles}
 use Rattle.definitions.specs.Knowledge.{Frame, Chain, none, more, linked, onward, chained}
-use Rattle.definitions.proofs.Listed.{in_keep, keep_in, any_decides, count, count_length, count_rises, repeat_keeps, repeat_settles}
-use Rattle.definitions.proofs.Upto.{upto_in, in_upto, length_upto, among_decides}
+use Rattle.definitions.proofs.Listed.{in_keep, keep_in, any_decides, any_true, count, count_length, count_rises, repeat_keeps, repeat_settles}
+use Rattle.definitions.proofs.Upto.{upto_in, in_upto, among_decides}
 
 pub chain_below : {n : ℕ} {f : Frame} {w v : ℕ} → w < f.size → Chain n f w v → v < f.size
 chain_below h none = h
@@ -20,7 +21,7 @@ module _ (g : Game) (f : Frame) where
   linked_decides : (v u : ℕ) → Decides (linked g f v u) (Link v u)
   linked_decides v u =
       Decides-like _ (λ h. (h.0, upto_in _ h.1, h.2)) (λ h. (h.0, in_upto h.1, h.2))
-      (any_decides (λ r. f.alike r v u) (λ r. f.alike r v u ≡ true) (λ r. (λ e. e, λ e. e)) (upto (roles g)))
+      (any_true (λ r. f.alike r v u) (upto (roles g)))
 
   -- what a turn has of the worlds vs: these, and where a step leads from them
   abbrev Next : List ℕ → ℕ → Type 0
@@ -60,7 +61,7 @@ module _ (g : Game) (f : Frame) where
   chained_closed : (w : ℕ) → Closed (chained g f w)
   chained_closed w =
       repeat_settles (onward g f) (λ vs. Unit {0}) Closed (λ vs h. tt) stays_closed extent f.size
-      (λ vs h. omega (arith, count_length (among vs) (upto f.size), length_upto f.size))
+      (λ vs h. omega (arith, count_length (among vs) (upto f.size), length-range_with_len 0 f.size))
       (λ vs h. closed_or_more vs) f.size (w ∷ []) tt (omega arith)
 
   pub chained_decides : (w v : ℕ) → w < f.size → Decides (among (chained g f w) v) (Chain (roles g) f w v)

@@ -1,5 +1,5 @@
 -- Each text is read, in one way, or refused, in one way, and never both.
-use Rattle.std.proofs.Common.{◌≡◌, ℕ, ◌≤◌, true, leb, List, [], ◌∷◌, length, sym, refl, ap, ◌∙◌, subst, append-nil, zero-add, arith}
+use Rattle.std.proofs.Common.{◌≡◌, ℕ, ◌≤◌, true, leb, List, [], ◌∷◌, length, sym, refl, ap, ◌∙◌, append-nil, zero-add, arith}
 use Rattle.std.proofs.lemmas.Bool.{cond-true, cond-false, cond_both, le-leb, lt-leb, leb-true, leb-false, le-ltb}
 use Rattle.definitions.specs.Refusal.{Refusal, Verdict, accepted, refused, AtVerdict}
 use Rattle.definitions.specs.Term.{Tree, none, Placed}
@@ -55,9 +55,6 @@ judged text =
     (at_piece {ps = []} (record { cut = record { whole = refl; sound = tt; longest = tt }; spells = refl; holds = tt }) refl))
     (λ long. too_long (leb-false _ _ long))
 
-pub verdict_reads : (text : List ℕ) (ts : Placed) → verdict text ≡ accepted ts → Reads text ts
-verdict_reads text ts e = subst (λ v. AtVerdict v (Reads text) (Refused text)) e (judged text)
-
 pub decided : Decided
 decided text = go (verdict text) refl (judged text)
   where
@@ -65,10 +62,10 @@ decided text = go (verdict text) refl (judged text)
     go (accepted ts) e h = record {
       reads = h;
       alone = λ us k. let f = reads_verdict text us k in cc;
-      never = λ r k. let f = refused_verdict text r k in let z : ◌≡◌ {A = ℕ} 0 1 = cc in omega arith;
+      never = λ r k. let f = refused_verdict text r k in cc;
     }
     go (refused r) e h = record {
       refuses = h;
       alone = λ q k. let f = refused_verdict text q k in cc;
-      never = λ ts k. let f = reads_verdict text ts k in let z : ◌≡◌ {A = ℕ} 0 1 = cc in omega arith;
+      never = λ ts k. let f = reads_verdict text ts k in cc;
     }

@@ -1,7 +1,6 @@
 -- What the rules of one level add, until nothing more can come.
 use Rattle.std.proofs.Common.{◌≡◌, ℕ, suc, ◌<◌, ◌≤◌, Bool, true, false, cond, not, ◌&&◌, eqb, ◌⊎◌, List, [], ◌∷◌, length, refl, ap, subst, inl, inr, ⊎_elim, arith}
-use Rattle.std.proofs.lemmas.Bool.{and_parts, and_from, or_left, or_right, not-true, not_from_false, eqb-true, eq-eqb, cond_both, both_ways, cases_Bool}
-use Rattle.std.proofs.lemmas.Bool.Decides.{Decides-not}
+use Rattle.std.proofs.lemmas.Bool.{false_from_ne_true, and_parts, and_from, or_left, or_right, not-true, not_from_false, eqb-true, eq-eqb, cond_both, both_ways, cases_Bool}
 use Rattle.definitions.specs.Form.{Atom, Rule}
 use Rattle.definitions.specs.Lists.{In, here, there, repeat}
 use Rattle.definitions.specs.Level.{same_atom, member}
@@ -10,7 +9,7 @@ use Rattle.definitions.proofs.Listed.{count, count_length, count_rises, repeat_s
 use Rattle.definitions.proofs.Atoms.{same_atom_decides}
 
 pub not_same : (a b : Atom ℕ) → (a ≡ b → ⊥) → same_atom a b ≡ false
-not_same a b apart = not-true _ ((Decides-not _ (same_atom_decides a b)).1 apart)
+not_same a b apart = false_from_ne_true _ (λ e. apart ((same_atom_decides a b).0 e))
 
 -- how many of the rules have their heads in a set
 abbrev headed : List (Rule ℕ) → List (Atom ℕ) → ℕ

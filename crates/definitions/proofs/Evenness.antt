@@ -1,26 +1,21 @@
 -- The lowest player for whom a book is not even.
-use Rattle.std.proofs.Common.{◌≡◌, ℕ, zero, suc, ◌+◌, ◌<◌, ◌≤◌, Bool, true, false, not, ◌&&◌, List, [], map, length, get_or, Some, None, Decides, Option, ◌∙◌, subst₂, ⊎_elim, arith, MatchOption}
-use Rattle.std.proofs.lemmas.List.{length-map}
+use Rattle.std.proofs.Common.{◌≡◌, ℕ, zero, suc, ◌+◌, ◌<◌, ◌≤◌, Bool, true, false, not, ◌&&◌, List, [], length, get_or, Some, None, Decides, Option, subst₂, ⊎_elim, arith, MatchOption}
+use Rattle.std.proofs.lemmas.List.FromFn.{length-map-range_with_len}
 use Rattle.std.proofs.lemmas.Bool.{and_parts, and_cases, both_ways, cond_both, cases_eq, cases_Bool, not_from_false, not-true}
 use Rattle.std.proofs.lemmas.Bool.Decides.{not_from_Decides, Decides-like, Decides-not, Decides-and}
 use Rattle.definitions.specs.Form.{Atom, same_word}
-use Rattle.definitions.specs.Lists.{In, from_to, upto}
+use Rattle.definitions.specs.Lists.{In, from_to}
 use Rattle.definitions.specs.Level.{highest}
 use Rattle.definitions.specs.Ruleset.{Game, roles}
 use Rattle.definitions.specs.Deal.{Deal}
 use Rattle.definitions.specs.Knowledge.{Frame, deeper, knowing}
 use Rattle.definitions.specs.Play.{Play, alike, nth, frame, knowledge, legal_moves, each_with, is_player, tells_apart, first_role, uneven, Even, EvennessJudged}
-use Rattle.definitions.proofs.Listed.{any_decides, repeat_keeps}
-use Rattle.definitions.proofs.Upto.{length_upto}
-use Rattle.definitions.proofs.Fires.{true_itself}
+use Rattle.definitions.proofs.Listed.{any_decides, true_itself, repeat_keeps}
 use Rattle.definitions.proofs.Beside.{each_in, in_each}
 use Rattle.definitions.proofs.Spelled.{same_word_decides}
 
 pub knowing_length : (g : Game) (f : Frame) → length (knowing g f) ≡ f.size
-knowing_length g f = repeat_keeps (deeper g f) (λ K. length K ≡ f.size) (λ K h. mapped _) (suc (highest g.rules)) _ (mapped (λ w. []))
-  where
-    mapped : (h : ℕ → List (Atom ℕ)) → length (map h (upto f.size)) ≡ f.size
-    mapped h = length-map (upto f.size) h ∙ length_upto f.size
+knowing_length g f = repeat_keeps (deeper g f) (λ K. length K ≡ f.size) (λ K h. length-map-range_with_len _ 0 f.size) (suc (highest g.rules)) _ (length-map-range_with_len (λ w. []) 0 f.size)
 
 module _ (g : Game) (d : Deal) (ps : List Play) (r : ℕ) where
   -- a play with its legal moves

@@ -1,17 +1,19 @@
 -- The rules of an accepted game look only at the bits of their own features in a state.
-use Rattle.std.proofs.Common.{◌≡◌, ℕ, suc, ◌+◌, ◌-◌, ◌/◌, ◌%◌, ◌^◌, ◌<◌, true, eqb, List, length, Option, refl, ap, ◌∙◌, subst, arith}
-use lib.Pow.{mod-mod-pow}
-use Rattle.std.proofs.lemmas.Nat.{field_of}
+use Rattle.std.proofs.Common.{◌≡◌, ℕ, suc, ◌/◌, ◌%◌, ◌^◌, ◌<◌, true, eqb, List, length, Option, sym, refl, ap, ◌∙◌, subst, arith}
+use Rattle.std.specs.Int.{bit_at}
+use Rattle.std.proofs.lemmas.Nat.{shr_split}
+use Rattle.std.proofs.lemmas.Nat.Bits.{bit_at_cat_low}
 use Rattle.definitions.specs.Refusal.{accepted}
 use Rattle.definitions.specs.Term.{Term}
 use Rattle.definitions.specs.Form.{Atom, Rule}
 use Rattle.definitions.specs.Lists.{In, here, joined}
 use Rattle.definitions.specs.Level.{shape, named, body, level, highest}
 use Rattle.definitions.specs.Numbering.{a_feature, in_atom, mentions, features_in, Tables, number, numbered_atom}
-use Rattle.definitions.specs.Holds.{Position, bit, given, holds}
+use Rattle.definitions.specs.Holds.{bit, given, holds}
 use Rattle.definitions.specs.Ruleset.{Ruled, Game, game, game_verdict}
 use Rattle.definitions.proofs.Listed.{in_joined}
 use Rattle.definitions.proofs.Local.{climb_same_in}
+use Rattle.definitions.proofs.Agreed.{position_with}
 use Rattle.definitions.proofs.Mentioned.{atom_spoken}
 use Rattle.definitions.proofs.Numbers.{mentioned_once}
 use Rattle.definitions.proofs.Verdicts.{forms_of, accepted_passed}
@@ -44,20 +46,13 @@ accepted_features text g e = let (fs, same, p) = accepted_passed text g e in sub
 
 -- the bits below n are those of the remainder
 low_bit : (s f n : ℕ) → f < n → bit f (s % 2 ^ n) ≡ bit f s
-low_bit s f n low =
-    let j = n - suc f in
-    let long : n ≡ (j + 1) + f = omega arith in
-    let cut : s % 2 ^ n / 2 ^ f ≡ s / 2 ^ f % 2 ^ (j + 1) = ap (λ m. s % 2 ^ m / 2 ^ f) long ∙ field_of s (j + 1) f in
-    ap (λ m. eqb m 1) (ap (λ m. m % 2) cut ∙ mod-mod-pow (s / 2 ^ f) j 1)
+low_bit s f n low = ap (λ m. eqb m 1) (sym (bit_at_cat_low (s / 2 ^ n) n (s % 2 ^ n) f low) ∙ ap (λ m. bit_at m f) (shr_split s n))
 
 module _ (g : Game) (within : FeaturesWithin g) (s : ℕ) (moves : Option (List ℕ)) (known : List (Atom ℕ)) where
   abbrev short : ℕ
   short = s % 2 ^ length g.names.features
 
-  abbrev in_state : ℕ → Position
-  in_state n = record { state = n; moves = moves; knowledge = known }
-
-  given_short : (a : Atom ℕ) → ((f : ℕ) → a ≡ Atom.true_now f → f < length g.names.features) → given (in_state short) a ≡ given (in_state s) a
+  given_short : (a : Atom ℕ) → ((f : ℕ) → a ≡ Atom.true_now f → f < length g.names.features) → given (position_with short moves known) a ≡ given (position_with s moves known) a
   given_short (Atom.role r) h = refl
   given_short (Atom.true_now f) h = low_bit s f _ (h f refl)
   given_short (Atom.does r m) h = refl
@@ -71,5 +66,5 @@ module _ (g : Game) (within : FeaturesWithin g) (s : ℕ) (moves : Option (List 
   given_short (Atom.sees r e) h = refl
 
   -- a fact does not turn on the bits beyond the features
-  pub holds_short : (p : ℕ) → holds g.rules (in_state short) (Atom.fact p) ≡ holds g.rules (in_state s) (Atom.fact p)
-  holds_short p = climb_same_in (level g.rules) g.rules (given (in_state short)) (given (in_state s)) (λ a. true) (λ r i e a j. (refl, given_short a λ f is. within r i f (subst (λ b. In b (joined named (body r))) is j))) (suc (highest g.rules)) (Atom.fact p) refl
+  pub holds_short : (p : ℕ) → holds g.rules (position_with short moves known) (Atom.fact p) ≡ holds g.rules (position_with s moves known) (Atom.fact p)
+  holds_short p = climb_same_in (level g.rules) g.rules (given (position_with short moves known)) (given (position_with s moves known)) (λ a. true) (λ r i e a j. (refl, given_short a λ f is. within r i f (subst (λ b. In b (joined named (body r))) is j))) (suc (highest g.rules)) (Atom.fact p) refl

@@ -1,9 +1,10 @@
 -- The list of first appearances, and the place of the first element that is like another.
-use Rattle.std.proofs.Common.{◌≡◌, suc, ◌<◌, Bool, true, false, not, eqb, List, [], ◌∷◌, length, get_or, Decides, sym, refl, ap, ◌∙◌, subst, ⊎_elim, arith}
-use Rattle.std.proofs.lemmas.Bool.{cases_Bool, cond-true, cond-false, cond_both, not-true, not_from_false, or_left, or_right, eqb-true, eq-eqb, false≢true}
+use Rattle.std.proofs.Common.{◌≡◌, suc, ◌<◌, Bool, true, false, not, eqb, List, [], ◌∷◌, length, get_or, Decides, refl, ap, ◌∙◌, subst, inl, ⊎_elim, arith}
+use Rattle.std.proofs.lemmas.Bool.{cases_Bool, false_from_ne_true, cond-true, cond-false, cond_both, not-true, not_from_false, or_left, or_right, eqb-true, eq-eqb, false≢true}
 use Rattle.std.proofs.lemmas.Bool.Decides.{same_from_decides}
 use Rattle.definitions.specs.Lists.{In, there, keep, any, firsts, first_like, Same, FirstAppearance}
-use Rattle.definitions.proofs.Elements.{in_first, in_cases, in_any, any_in, keep_in, kept_in}
+use Rattle.definitions.proofs.Listed.{in_either, either_in, in_keep, keep_in, any_true}
+use Rattle.definitions.proofs.Elements.{in_any}
 use Rattle.definitions.proofs.Pairwise.{Pairwise, pairwise_keep, pairwise_like, pairwise_places}
 
 -- the place is in the list, and what is there is like x
@@ -16,7 +17,7 @@ like_place {X} same (y ∷ ys) x h =
 
 from_list : {X : Type 0} (same : X → X → Bool) (xs : List X) (y : X) → In y (firsts same xs) → In y xs
 from_list same [] y h = elim h [ ]
-from_list same (x ∷ xs) y h = ⊎_elim (in_first xs) (λ k. there (from_list same xs y (kept_in _ (firsts same xs) y k).0)) (in_cases h)
+from_list same (x ∷ xs) y h = ⊎_elim (λ e. in_either (inl e)) (λ k. there (from_list same xs y (keep_in _ (firsts same xs) k).0)) (either_in h)
 
 module _ {X : Type 0} (same : X → X → Bool) (laws : Same same) where
   same_alike : (x z y : X) → same x z ≡ true → same y x ≡ same y z
@@ -40,12 +41,12 @@ module _ {X : Type 0} (same : X → X → Bool) (laws : Same same) where
   pub every_found : (xs : List X) (x : X) → In x xs → any (λ y. same y x) (firsts same xs) ≡ true
   every_found [] x h = elim h [ ]
   every_found (y ∷ ys) x h = ⊎_elim
-      (λ e. or_left (same y x) _ (rw e (laws.itself y)))
-      (λ k. ⊎_elim (or_left (same y x) _) (λ e. or_right (same y x) _ (later e (any_in _ (firsts same ys) (every_found ys x k)))) (cases_Bool (same y x)))
-      (in_cases h)
+      (λ e. or_left (same y x) _ (rw e (laws.itself x)))
+      (λ k. ⊎_elim (or_left (same y x) _) (λ e. or_right (same y x) _ (later e ((any_true _ (firsts same ys)).0 (every_found ys x k)))) (cases_Bool (same y x)))
+      (either_in h)
     where
       later : same y x ≡ false → (z : X) × In z (firsts same ys) × (same z x ≡ true) → any (λ z. same z x) (keep (λ z. not (same y z)) (firsts same ys)) ≡ true
-      later e (z, k, f) = in_any (λ u. same u x) (keep_in _ k (not_from_false _ (same_alike z x y f ∙ e))) f
+      later e (z, k, f) = in_any (λ u. same u x) (in_keep _ k (not_from_false _ (same_alike z x y f ∙ e))) f
 
   in_order : (xs : List X) → Pairwise (λ y z. first_like same xs y < first_like same xs z) (firsts same xs)
   in_order [] = tt
@@ -55,15 +56,15 @@ module _ {X : Type 0} (same : X → X → Bool) (laws : Same same) where
   )
     where
       unlike : (y : X) → In y (keep (λ y. not (same x y)) (firsts same xs)) → same x y ≡ false
-      unlike y k = not-true _ (kept_in _ (firsts same xs) y k).1
+      unlike y k = not-true _ (keep_in _ (firsts same xs) k).1
 
   -- an element of the list of first appearances stands where it comes first
   stands_first : (xs : List X) (y : X) → In y (firsts same xs) → get_or xs (first_like same xs y) y ≡ y
   stands_first [] y h = elim h [ ]
   stands_first (x ∷ xs) y h = ⊎_elim
-      (λ e. subst (λ z. get_or (x ∷ xs) (first_like same (x ∷ xs) z) z ≡ z) (sym e) (ap (λ n. get_or (x ∷ xs) n x) (cond-true _ _ _ (laws.itself x))))
-      (λ k. let r = kept_in _ (firsts same xs) y k in ap (λ n. get_or (x ∷ xs) n y) (cond-false _ _ _ (not-true _ r.1)) ∙ stands_first xs y r.0)
-      (in_cases h)
+      (λ e. subst (λ z. get_or (x ∷ xs) (first_like same (x ∷ xs) z) z ≡ z) e (ap (λ n. get_or (x ∷ xs) n x) (cond-true _ _ _ (laws.itself x))))
+      (λ k. let r = keep_in _ (firsts same xs) k in ap (λ n. get_or (x ∷ xs) n y) (cond-false _ _ _ (not-true _ r.1)) ∙ stands_first xs y r.0)
+      (either_in h)
 
   pub firsts_are_first : (xs : List X) → FirstAppearance same xs (firsts same xs)
   firsts_are_first xs =
@@ -72,6 +73,6 @@ module _ {X : Type 0} (same : X → X → Bool) (laws : Same same) where
         from = from_list same xs;
         first = stands_first xs;
         every = every_found xs;
-        apart = λ d i j l m. ⊎_elim (λ e. absurd (omega (arith, ordered d i j l m, like_same xs _ _ e))) (λ e. e) (cases_Bool (same (get_or (firsts same xs) i d) (get_or (firsts same xs) j d)));
+        apart = λ d i j l m. false_from_ne_true _ (λ e. omega (arith, ordered d i j l m, like_same xs _ _ e));
         ordered = ordered;
       }

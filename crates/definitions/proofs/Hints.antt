@@ -1,15 +1,11 @@
--- The worlds that chains reach, and those that a hint leaves.
+-- The worlds that a hint leaves.
 use Rattle.std.proofs.Common.{refl}
 use Rattle.std.proofs.lemmas.Bool.Decides.{Decides-like}
 use Rattle.definitions.specs.Lists.{upto}
 use Rattle.definitions.specs.Deal.{standing}
-use Rattle.definitions.specs.Knowledge.{in_deal_holds, ChainsDecided, HintLeaves}
+use Rattle.definitions.specs.Knowledge.{in_deal_holds, HintLeaves}
 use Rattle.definitions.proofs.Listed.{in_keep, keep_in}
 use Rattle.definitions.proofs.Upto.{in_upto, among_decides}
-use Rattle.definitions.proofs.Chains.{chained_decides}
-
-pub chains_decided : ChainsDecided
-chains_decided = chained_decides
 
 pub hint_leaves : HintLeaves
 hint_leaves g d p = record {

@@ -1,12 +1,12 @@
 -- Joint moves: every choice of one from each list, each once.
 use Rattle.std.proofs.Common.{◌≡◌, ℕ, zero, suc, ◌<◌, ◌≢◌, List, [], ◌∷◌, map, length, get_or, sym, refl, ap, ◌∙◌, subst, arith}
-use Rattle.std.proofs.lemmas.List.{length-map}
+use Rattle.std.proofs.lemmas.List.FromFn.{length-map-range_with_len}
 use Rattle.definitions.specs.Form.{Atom}
 use Rattle.definitions.specs.Lists.{In, here, there, upto}
 use Rattle.definitions.specs.Ruleset.{Game, roles}
 use Rattle.definitions.specs.Play.{Play, legal_moves, joint, joint_moves, LegalIn}
 use Rattle.definitions.proofs.Listed.{in_joined, joined_in}
-use Rattle.definitions.proofs.Upto.{map_in, in_map, length_upto, get_or_map_upto}
+use Rattle.definitions.proofs.Upto.{map_in, in_map, get_or_map_upto}
 use Rattle.definitions.proofs.Pairwise.{Pairwise, pairwise_like}
 use Rattle.definitions.proofs.Repeats.{pairwise_map, pairwise_joined, kept_once}
 
@@ -43,21 +43,15 @@ module _ (g : Game) where
   joint_once [] each = ((λ y i. elim i [ ]), tt)
   joint_once (xs ∷ lists) each =
       pairwise_joined (λ x y. x ≢ y) (λ m. map (λ js. m ∷ js) (joint g lists)) xs
-      (pairwise_like (λ x y. x ≢ y) _ xs (λ m n i j apart u v k l e. let r = map_in _ (joint g lists) k in let s = map_in _ (joint g lists) l in apart (first (sym r.2 ∙ e ∙ s.2))) (each xs here))
-      (λ m i. pairwise_map (λ x y. x ≢ y) (λ js. m ∷ js) (joint g lists) (pairwise_like (λ x y. x ≢ y) _ (joint g lists) (λ u v j k apart e. apart (rest e)) (joint_once lists (λ ms j. each ms (there j)))))
-    where
-      first : {m n : ℕ} {u v : List ℕ} → m ∷ u ≡ n ∷ v → m ≡ n
-      first e = cc
-
-      rest : {m n : ℕ} {u v : List ℕ} → m ∷ u ≡ n ∷ v → u ≡ v
-      rest e = cc
+      (pairwise_like (λ x y. x ≢ y) _ xs (λ m n i j apart u v k l e. let r = map_in _ (joint g lists) k in let s = map_in _ (joint g lists) l in apart (cc)) (each xs here))
+      (λ m i. pairwise_map (λ x y. x ≢ y) (λ js. m ∷ js) (joint g lists) (pairwise_like (λ x y. x ≢ y) _ (joint g lists) (λ u v j k apart e. apart (cc)) (joint_once lists (λ ms j. each ms (there j)))))
 
   module _ (p : Play) (K : List (Atom ℕ)) where
     abbrev lists : List (List ℕ)
     lists = map (legal_moves g p K) (upto (roles g))
 
     lists_long : length lists ≡ roles g
-    lists_long = length-map (upto (roles g)) (legal_moves g p K) ∙ length_upto (roles g)
+    lists_long = length-map-range_with_len (legal_moves g p K) 0 (roles g)
 
     lists_each : (r : ℕ) → r < roles g → get_or lists r [] ≡ legal_moves g p K r
     lists_each r low = get_or_map_upto (legal_moves g p K) (roles g) r [] low

@@ -5,9 +5,8 @@ use Rattle.definitions.specs.Form.{Atom, Rule}
 use Rattle.definitions.specs.Lists.{any}
 use Rattle.definitions.specs.Level.{uses, strict_uses, Depends, below, same_atom, reaches, is_knows, is_does, before_moves, ComingBackDecided, RestingDecided, LookingAheadDecided}
 use Rattle.definitions.proofs.Atoms.{same_atom_decides}
-use Rattle.definitions.proofs.Listed.{any_decides}
+use Rattle.definitions.proofs.Listed.{any_decides, true_itself, any_true}
 use Rattle.definitions.proofs.Reach.{reaches_decides, depends_below, below_depends}
-use Rattle.definitions.proofs.Fires.{true_itself}
 
 pub coming_back_decided : ComingBackDecided
 coming_back_decided rules r =
@@ -17,7 +16,7 @@ coming_back_decided rules r =
 some_below : (rules : List (Rule ℕ)) (a : Atom ℕ) (f : Atom ℕ → Bool) → Decides (any f (below rules a)) ((b : Atom ℕ) × Depends rules a b × (f b ≡ true))
 some_below rules a f =
     Decides-like _ (λ (b, i, t). (b, below_depends rules a b i, t)) (λ (b, d, t). (b, depends_below rules d, t))
-    (any_decides f (λ b. f b ≡ true) (λ b. true_itself (f b)) (below rules a))
+    (any_true f (below rules a))
 
 pub resting_decided : RestingDecided
 resting_decided rules p = some_below rules (Atom.fact p) is_knows

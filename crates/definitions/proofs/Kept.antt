@@ -3,8 +3,7 @@ use Rattle.std.proofs.Common.{◌≡◌, ℕ, Bool, true, false, cond, ◌&&◌,
 use Rattle.std.proofs.lemmas.Bool.Decides.{same_from_decides, Decides-like}
 use Rattle.definitions.specs.Lists.{In, here, there, keep}
 use Rattle.definitions.specs.Deal.{among}
-use Rattle.definitions.proofs.Listed.{in_keep, keep_in}
-use Rattle.definitions.proofs.Fires.{true_itself}
+use Rattle.definitions.proofs.Listed.{in_keep, keep_in, true_itself}
 use Rattle.definitions.proofs.Upto.{among_decides}
 
 pub keep_same : {X : Type 0} (f g : X → Bool) (xs : List X) → ((x : X) → In x xs → f x ≡ g x) → keep f xs ≡ keep g xs
@@ -18,15 +17,6 @@ keep_twice {X} f g (x ∷ xs) = go (f x) (keep_twice f g xs)
     go : (b : Bool) → keep g (keep f xs) ≡ keep (λ x. f x && g x) xs → keep g (cond b (x ∷ keep f xs) (keep f xs)) ≡ cond (b && g x) (x ∷ keep (λ x. f x && g x) xs) (keep (λ x. f x && g x) xs)
     go true on = rw on
     go false on = on
-
-and_turned : (a b : Bool) → (a && b) ≡ (b && a)
-and_turned true true = refl
-and_turned true false = refl
-and_turned false true = refl
-and_turned false false = refl
-
-pub both_turned : {X : Type 0} (f g : X → Bool) (xs : List X) → keep (λ x. f x && g x) xs ≡ keep (λ x. g x && f x) xs
-both_turned f g xs = keep_same _ _ xs (λ x i. and_turned (f x) (g x))
 
 -- a list is kept again by what it kept
 pub kept_again : (f : ℕ → Bool) (xs : List ℕ) → keep (among (keep f xs)) xs ≡ keep f xs

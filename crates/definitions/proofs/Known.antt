@@ -3,13 +3,13 @@ use Rattle.std.proofs.Common.{◌≡◌, ℕ, ◌<◌, Bool, true, false, not, �
 use Rattle.std.proofs.lemmas.Bool.{false≢true}
 use Rattle.std.proofs.lemmas.Bool.Decides.{Decides-at, Decides-like}
 use Rattle.definitions.specs.Form.{Atom}
-use Rattle.definitions.specs.Lists.{In, joined, keep, all, upto}
+use Rattle.definitions.specs.Lists.{In, joined, keep, upto}
 use Rattle.definitions.specs.Level.{member}
 use Rattle.definitions.specs.Holds.{holds}
 use Rattle.definitions.specs.Deal.{among}
 use Rattle.definitions.specs.Ruleset.{Game, roles}
 use Rattle.definitions.specs.Knowledge.{Frame, Chain, position, truths, chained, true_in, known_in, deeper}
-use Rattle.definitions.proofs.Listed.{in_left, in_right, in_append, in_joined, joined_in, in_keep, keep_in, all_decides}
+use Rattle.definitions.proofs.Listed.{in_left, in_right, in_append, in_joined, joined_in, in_keep, keep_in, all_true}
 use Rattle.definitions.proofs.Atoms.{member_decides}
 use Rattle.definitions.proofs.Upto.{map_in, in_map, upto_in, in_upto, get_or_map_upto, among_decides}
 use Rattle.definitions.proofs.Chains.{chain_below, chained_decides}
@@ -52,9 +52,6 @@ module _ (n m : ℕ) (own : ℕ → ℕ → Bool) (shared : ℕ → Bool) where
       Decides-like _ (λ i. ⊎_elim (λ s. let (q, l, e, t) = s in cc) (λ s. let (q, e, t) = s in cc) (listed_in _ i))
       (λ e. in_right (owned n m own) (in_map (λ q. Atom.common q) (in_keep shared (in_upto low) e)))
       (member_decides (listed n m own shared) (Atom.common p))
-
-all_true : {X : Type 0} (test : X → Bool) (xs : List X) → Decides (all test xs) ((x : X) → In x xs → test x ≡ true)
-all_true test xs = all_decides test (λ x. test x ≡ true) (λ x. (λ e. e, λ e. e)) xs
 
 either_decides : {P : Type 0} (a b : Bool) → Decides b P → Decides (not a || b) (a ≡ true → P)
 either_decides true b d = (λ e h. d.0 e, λ h. d.1 (h refl))

@@ -1,6 +1,6 @@
 -- A hint that is accepted over a lawful deal is lawful.
-use Rattle.std.proofs.Common.{◌≡◌, ℕ, ◌≤◌, Bool, true, false, cond, not, ltb, List, length, refl, subst, ⊎_elim, arith}
-use Rattle.std.proofs.lemmas.Bool.{cases_Bool}
+use Rattle.std.proofs.Common.{◌≡◌, ℕ, ◌≤◌, Bool, true, false, cond, not, ltb, List, length, refl, subst, arith}
+use Rattle.std.proofs.lemmas.Bool.{false_from_ne_true}
 use Rattle.definitions.specs.Refusal.{Refusal, accepted, refused}
 use Rattle.definitions.specs.Lists.{keep, upto}
 use Rattle.definitions.specs.Ruleset.{Game}
@@ -11,10 +11,10 @@ use Rattle.definitions.proofs.Upto.{upto_in, among_decides}
 use Rattle.definitions.proofs.Plain.{real_stands}
 
 third_passes : {X : Type 0} (a b c : Bool) (r s t : Refusal) (x h : X) → cond a (refused r) (cond b (refused s) (cond c (accepted x) (refused t))) ≡ accepted h → (x ≡ h) × (c ≡ true)
-third_passes true b c r s t x h e = let z : ◌≡◌ {A = ℕ} 0 1 = cc in absurd (omega arith)
-third_passes false true c r s t x h e = let z : ◌≡◌ {A = ℕ} 0 1 = cc in absurd (omega arith)
+third_passes true b c r s t x h e = cc
+third_passes false true c r s t x h e = cc
 third_passes false false true r s t x h e = (cc, refl)
-third_passes false false false r s t x h e = let z : ◌≡◌ {A = ℕ} 0 1 = cc in absurd (omega arith)
+third_passes false false false r s t x h e = cc
 
 module _ (g : Game) (d : Deal) (p : ℕ) where
   hinted_lawful : Lawful d → in_deal_holds g d p d.seats.real ≡ true → Lawful (hinted g d p)
@@ -34,12 +34,9 @@ module _ (g : Game) (d : Deal) (p : ℕ) where
 
       fallen : (w : ℕ) → d.deck.size ≤ w → among kept w ≡ false
       fallen w far =
-          ⊎_elim
-          (λ t.
+          false_from_ne_true (among kept w) λ t.
           let i = (keep_in (in_deal_holds g d p) (standing d) ((among_decides kept w).0 t)).0 in
-          absurd (omega (arith, upto_in d.deck.size (keep_in d.deck.stands (upto d.deck.size) i).0)))
-          (λ f. f)
-          (cases_Bool (among kept w))
+          omega (arith, upto_in d.deck.size (keep_in d.deck.stands (upto d.deck.size) i).0)
 
 pub hints_lawful : HintsLawful
 hints_lawful g d h p row law e =

@@ -75,6 +75,15 @@ module _ {X : Type 0} (f : X → Bool) (P : X → Type 0) (each : (x : X) → De
       split p x (inl e) = subst P e p.0
       split p x (inr i) = p.1 x i
 
+pub true_itself : (b : Bool) → Decides b (b ≡ true)
+true_itself b = (λ e. e, λ e. e)
+
+pub any_true : {X : Type 0} (f : X → Bool) (xs : List X) → Decides (any f xs) ((x : X) × In x xs × (f x ≡ true))
+any_true f xs = any_decides f (λ x. f x ≡ true) (λ x. true_itself (f x)) xs
+
+pub all_true : {X : Type 0} (f : X → Bool) (xs : List X) → Decides (all f xs) ((x : X) → In x xs → f x ≡ true)
+all_true f xs = all_decides f (λ x. f x ≡ true) (λ x. true_itself (f x)) xs
+
 pub most_above : {X : Type 0} (f : X → ℕ) {x : X} {xs : List X} → In x xs → f x ≤ most f xs
 most_above f here = omega arith
 most_above f (there i) = omega (arith, most_above f i)

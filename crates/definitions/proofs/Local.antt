@@ -5,10 +5,10 @@ use Rattle.definitions.specs.Form.{Atom, Rule}
 use Rattle.definitions.specs.Lists.{In, here, there, joined, repeat}
 use Rattle.definitions.specs.Level.{same_atom, member, about, named, body, Depends, by_rule, onward, below, reaches, is_knows, level, highest}
 use Rattle.definitions.specs.Holds.{Atoms, Position, bit, made, given, with_derived, derive, climb, LevelLocal, WithoutKnowledge}
-use Rattle.definitions.proofs.Listed.{in_left, in_right, in_joined, any_decides}
+use Rattle.definitions.proofs.Listed.{in_left, in_right, in_joined, any_true}
 use Rattle.definitions.proofs.Atoms.{same_atom_decides, member_decides}
 use Rattle.definitions.proofs.Reach.{reaches_decides}
-use Rattle.definitions.proofs.Fires.{true_itself, fires_same}
+use Rattle.definitions.proofs.Fires.{fires_same}
 use Rattle.definitions.proofs.Derive.{adding, not_same}
 
 repeat_both : {X : Type 0} (R : X → X → Type 0) (f g : X → X) → ((x y : X) → R x y → R (f x) (g y)) → (n : ℕ) (x y : X) → R x y → R (repeat n f x) (repeat n g y)
@@ -89,7 +89,7 @@ without_knowledge rules f free p q states moves =
     under a = same_atom (Atom.fact f) a || reaches rules (Atom.fact f) a
 
     no_knows : (a : Atom ℕ) → reaches rules (Atom.fact f) a ≡ true → is_knows a ≡ true → ⊥
-    no_knows a e k = both_ways _ free ((any_decides is_knows (λ b. is_knows b ≡ true) (λ b. true_itself (is_knows b)) (below rules (Atom.fact f))).1 (a, (member_decides _ a).0 e, k))
+    no_knows a e k = both_ways _ free ((any_true is_knows (below rules (Atom.fact f))).1 (a, (member_decides _ a).0 e, k))
 
     used : (r : Rule ℕ) → In r rules → under r.head ≡ true → (a : Atom ℕ) → In a (joined named (body r)) → Depends rules (Atom.fact f) a
     used r i into a j =

@@ -7,7 +7,7 @@ use Rattle.definitions.specs.Lists.{In, here, there, joined, from_to, upto}
 use Rattle.definitions.specs.Ruleset.{Game, game_verdict}
 use Rattle.definitions.specs.Deal.{Deal, Lawful, among, state_where, opening, Record, big_endian, pairs, sheet_deal, sheet_verdict, Laid, laid_bytes, worlds_in, SheetOf, MadeLawful}
 use Rattle.definitions.proofs.Listed.{either_in, in_left, in_right, in_joined, joined_in}
-use Rattle.definitions.proofs.Elements.{get_or_in}
+use Rattle.definitions.proofs.Elements.{get_or_in, in_place}
 use Rattle.definitions.proofs.Accepted.{accepted_sound}
 use Rattle.definitions.proofs.Noted.{worlds_of}
 use Rattle.definitions.proofs.Sheets.{sheets_decided}
@@ -45,8 +45,7 @@ abbrev Bytes : List ℕ → Type 0
 Bytes bs = (b : ℕ) → In b bs → b < 256
 
 in_bytes : (bs : List ℕ) → ((i : ℕ) → get_or bs i 0 < 256) → Bytes bs
-in_bytes [] h b i = elim i [ ]
-in_bytes (c ∷ bs) h b i = ⊎_elim (λ same. omega (arith, h 0)) (in_bytes bs (λ k. h (suc k)) b) (either_in i)
+in_bytes bs h b i = let p = in_place i in subst (λ n. n < 256) (p.2 0) (h p.0)
 
 -- m times 256 for each of n bytes
 abbrev widened : ℕ → ℕ → ℕ

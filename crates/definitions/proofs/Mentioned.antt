@@ -1,5 +1,6 @@
 -- What rules over numbers speak of is mentioned in the forms that they come from, and has a number in their tables.
 use Rattle.std.proofs.Common.{◌≡◌, ℕ, ◌<◌, List, [], ◌∷◌, map, length, sym, ap, ◌∙◌, subst, inl, inr, arith}
+use Rattle.std.proofs.lemmas.List.Folds.{flat_map-map}
 use Rattle.definitions.specs.Term.{Term}
 use Rattle.definitions.specs.Form.{Atom, Literal, settled, bare, negated, Rule, Form, declares, opens, rules}
 use Rattle.definitions.specs.Lists.{In, here, there, joined}
@@ -7,7 +8,7 @@ use Rattle.definitions.specs.Level.{shape, about, named, body}
 use Rattle.definitions.specs.Numbering.{Mention, a_role, a_fact, in_atom, in_literal, in_rule, in_form, mentions, roles_in, facts_in, Tables, tables, rules_of, number, role_number, numbered_atom, numbered_literal, numbered}
 use Rattle.definitions.specs.Ruleset.{Ruled, declared, rule_of, game}
 use Rattle.definitions.proofs.Listed.{either_in, in_right, in_joined, joined_in}
-use Rattle.definitions.proofs.Mapped.{joined_map, map_joined}
+use Rattle.definitions.proofs.Mapped.{map_joined}
 use Rattle.definitions.proofs.Upto.{map_in}
 use Rattle.definitions.proofs.Numbers.{mentioned_once}
 use Rattle.definitions.proofs.Verdicts.{forms_of}
@@ -29,7 +30,7 @@ module _ (t : Tables) where
   literal_spoken (negated b) i = (b, in_one i, λ m j. j)
 
   body_numbered : (r : Rule Term) → body (numbered t r) ≡ map (numbered_literal t) (joined (λ p. p) r.parts)
-  body_numbered r = joined_map (λ p. p) (map (numbered_literal t)) r.parts ∙ sym (map_joined (numbered_literal t) (λ p. p) r.parts)
+  body_numbered r = flat_map-map (λ p. p) (map (numbered_literal t)) r.parts ∙ sym (map_joined (numbered_literal t) (λ p. p) r.parts)
 
   rule_spoken : (r : Rule Term) {a : Atom ℕ} → In a (joined named (body (numbered t r))) → Spoken a (in_rule r)
   rule_spoken r {a} i =
@@ -66,7 +67,7 @@ module _ (t : Tables) where
   numbered_about (Atom.sees s x) i = elim i [ ]
 
 pub rules_numbered : (t : Tables) (fs : List Ruled) → joined (rule_of t) fs ≡ map (numbered t) (joined rules_of (forms_of fs))
-rules_numbered t fs = sym (ap (map (numbered t)) (joined_map rules_of (λ f. f.form) fs) ∙ map_joined (numbered t) (λ f. rules_of f.form) fs)
+rules_numbered t fs = sym (ap (map (numbered t)) (flat_map-map rules_of (λ f. f.form) fs) ∙ map_joined (numbered t) (λ f. rules_of f.form) fs)
 
 form_rule : (f : Form) {r : Rule Term} → In r (rules_of f) → Within (in_rule r) (in_form f)
 form_rule (declares s) i = elim i [ ]

@@ -1,7 +1,7 @@
 -- No play comes twice in a book: two plays of a book differ in their worlds or in their turns.
-use Rattle.std.proofs.Common.{◌≡◌, ℕ, zero, suc, ◌≢◌, List, [], get_or, sym, ap, ◌∙◌, subst, ⊎_elim}
+use Rattle.std.proofs.Common.{◌≡◌, ℕ, zero, suc, ◌≢◌, List, [], get_or, sym, ap, ◌∙◌, subst}
 use Rattle.std.proofs.lemmas.List.{same_from_push}
-use Rattle.std.proofs.lemmas.Bool.{cases_Bool}
+use Rattle.std.proofs.lemmas.Bool.{false_from_ne_true}
 use Rattle.definitions.specs.Form.{Atom}
 use Rattle.definitions.specs.Lists.{In}
 use Rattle.definitions.specs.Ruleset.{Game}
@@ -45,6 +45,6 @@ pub plays_once : PlaysOnce
 plays_once g d n i j low high =
     let p = nth (book g d n) i in
     let q = nth (book g d n) j in
-    ⊎_elim
-    (λ e. let same = (same_play_decides p q).0 e in absurd (pairwise_places Apart _ (book_apart g d n) no_play i j low high (ap (λ x. x.world) same) (ap (λ x. x.turns) same)))
-    (λ e. e) (cases_Bool (same_play p q))
+    false_from_ne_true (same_play p q) λ e.
+    let same = (same_play_decides p q).0 e in
+    pairwise_places Apart _ (book_apart g d n) no_play i j low high (ap (λ x. x.world) same) (ap (λ x. x.turns) same)

@@ -2,7 +2,8 @@
 use Rattle.std.proofs.Common.{ℕ, zero, suc, ◌<◌, Bool, List, [], ◌∷◌, length, get_or, subst, arith}
 use Rattle.std.proofs.lemmas.Bool.{cond_both}
 use Rattle.definitions.specs.Lists.{In, here, there, keep}
-use Rattle.definitions.proofs.Elements.{get_or_in, in_place, kept_in}
+use Rattle.definitions.proofs.Listed.{keep_in}
+use Rattle.definitions.proofs.Elements.{get_or_in, in_place}
 
 abbrev pub Pairwise : {X : Type 0} → (X → X → Type 0) → List X → Type 0
 Pairwise R [] = Unit {0}
@@ -13,7 +14,7 @@ module _ {X : Type 0} (R : X → X → Type 0) where
   pairwise_keep f [] h = tt
   pairwise_keep f (x ∷ xs) h =
       cond_both (f x) (x ∷ keep f xs) (keep f xs) (Pairwise R)
-      (λ b. ((λ y k. h.0 y (kept_in f xs y k).0), pairwise_keep f xs h.1))
+      (λ b. ((λ y k. h.0 y (keep_in f xs k).0), pairwise_keep f xs h.1))
       (λ b. pairwise_keep f xs h.1)
 
   pub pairwise_like : (S : X → X → Type 0) (xs : List X) → ((x y : X) → In x xs → In y xs → R x y → S x y) → Pairwise R xs → Pairwise S xs

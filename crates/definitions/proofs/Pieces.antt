@@ -6,10 +6,6 @@ pub all_append : (P : ℕ → Type 0) (bs cs : List ℕ) → All P bs → All P 
 all_append P [] cs h k = k
 all_append P (b ∷ bs) cs h k = (h.0, all_append P bs cs h.1 k)
 
-pub joined_append : (ps qs : List Piece) → joined (ps ++ qs) ≡ joined ps ++ joined qs
-joined_append [] qs = refl
-joined_append (p ∷ ps) qs = rw (joined_append ps qs, append_assoc)
-
 pub each_append : (ps qs : List Piece) → Each ps → Each qs → Each (ps ++ qs)
 each_append [] qs h k = k
 each_append (p ∷ ps) qs h k = (h.0, each_append ps qs h.1 k)

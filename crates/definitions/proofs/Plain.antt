@@ -1,6 +1,8 @@
 -- Hints of facts that rest on no knowledge: which worlds they leave, and that they are accepted.
-use Rattle.std.proofs.Common.{◌≡◌, ℕ, suc, ◌<◌, ◌≤◌, Bool, true, false, ◌&&◌, eqb, List, [], ◌∷◌, length, get_or, None, sym, refl, ap, ◌∙◌, subst, ⊎_elim, arith}
-use Rattle.std.proofs.lemmas.Bool.{cond-true, cond-false, cond_both, eqb-true, eqb-false, lt-ltb, le-ltb, not_from_true, and_parts}
+use Rattle.std.proofs.Common.{◌≡◌, ℕ, ◌<◌, ◌≤◌, Bool, true, false, ◌&&◌, eqb, List, [], length, get_or, None, sym, refl, ap, ◌∙◌, subst}
+use Rattle.std.proofs.Math.Bool.{and_comm}
+use Rattle.std.proofs.lemmas.List.Elements.{filter_agree}
+use Rattle.std.proofs.lemmas.Bool.{cond-true, cond-false, eqb-true, eq-eqb, lt-ltb, le-ltb, not_from_true, and_parts}
 use Rattle.definitions.specs.Refusal.{accepted}
 use Rattle.definitions.specs.Form.{Atom}
 use Rattle.definitions.specs.Lists.{In, keep, upto}
@@ -9,18 +11,15 @@ use Rattle.definitions.specs.Holds.{Position, holds}
 use Rattle.definitions.specs.Ruleset.{Game}
 use Rattle.definitions.specs.Deal.{Deal, Lawful, standing, among}
 use Rattle.definitions.specs.Knowledge.{Frame, position, knowing, deal_frame, index, in_deal_holds, hinted, hint_verdict}
-use Rattle.definitions.proofs.Listed.{either_in, in_keep, keep_in}
+use Rattle.definitions.proofs.Listed.{in_keep, keep_in}
+use Rattle.definitions.proofs.Elements.{in_any}
+use Rattle.definitions.proofs.Firsts.{like_place}
 use Rattle.definitions.proofs.Upto.{in_upto}
 use Rattle.definitions.proofs.Local.{without_knowledge}
-use Rattle.definitions.proofs.Kept.{keep_same, keep_twice, both_turned, kept_again}
+use Rattle.definitions.proofs.Kept.{keep_same, keep_twice, kept_again}
 
 pub index_place : {w : ℕ} (ws : List ℕ) → In w ws → (index ws w < length ws) × (get_or ws (index ws w) 0 ≡ w)
-index_place [] i = elim i [ ]
-index_place {w} (v ∷ vs) i =
-    let on = index_place {w = w} vs in
-    cond_both (eqb v w) 0 (suc (index vs w)) (λ n. (n < suc (length vs)) × (get_or (v ∷ vs) n 0 ≡ w))
-    (λ e. (omega arith, eqb-true v w e))
-    (λ e. let r = ⊎_elim (λ same. absurd (eqb-false v w e same)) on (either_in i) in (omega (arith, r.0), r.1))
+index_place {w} ws i = let r = like_place eqb ws w (in_any (λ v. eqb v w) i (eq-eqb w w refl)) in (r.0, eqb-true _ w (r.1 0))
 
 -- a state in which nothing is known, and whether a fact holds in it
 abbrev unaware : ℕ → Position
@@ -77,4 +76,4 @@ module _ (g : Game) where
   pub either_deal : (d : Deal) (p q : ℕ) → rests_on_knowledge g.rules p ≡ false → rests_on_knowledge g.rules q ≡ false → hinted g (hinted g d p) q ≡ hinted g (hinted g d q) p
   either_deal d p q p_free q_free =
       let with_worlds : List ℕ → Deal = λ ws. record { deck = record { size = d.deck.size; stands = among ws; state = d.deck.state }; seats = d.seats } in
-      ap with_worlds (second_keeps d p q q_free ∙ both_turned (in_deal_holds g d p) (in_deal_holds g d q) (standing d) ∙ sym (second_keeps d q p p_free))
+      ap with_worlds (second_keeps d p q q_free ∙ filter_agree _ _ (λ w. and_comm (in_deal_holds g d p w) (in_deal_holds g d q w)) (standing d) ∙ sym (second_keeps d q p p_free))

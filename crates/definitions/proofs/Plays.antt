@@ -1,9 +1,10 @@
 -- Whether two plays are the same.
-use Rattle.std.proofs.Common.{◌≡◌, List, [], ◌∷◌, Decides, refl, ap}
+use Rattle.std.proofs.Common.{◌≡◌, List, Decides, refl, ap}
 use Rattle.std.proofs.lemmas.Bool.Decides.{Decides-eqb, Decides-and, Decides-like}
+use Rattle.std.proofs.lemmas.Slice.Eq.{slice_eq-Decides}
 use Rattle.definitions.specs.Lists.{Same}
 use Rattle.definitions.specs.Play.{Turn, Play, same_turn, same_turns, same_play}
-use Rattle.definitions.proofs.Deciding.{decides_never, same_by_key}
+use Rattle.definitions.proofs.Deciding.{same_by_key}
 use Rattle.definitions.proofs.Spelled.{same_word_decides}
 
 same_turn_decides : (t u : Turn) → Decides (same_turn t u) (t ≡ u)
@@ -12,11 +13,7 @@ same_turn_decides t u =
     (Decides-and _ _ (same_word_decides t.moves u.moves) (same_word_decides t.seen u.seen))
 
 same_turns_decides : (ts us : List Turn) → Decides (same_turns ts us) (ts ≡ us)
-same_turns_decides [] [] = ((λ e. refl), λ e. refl)
-same_turns_decides [] (u ∷ us) = decides_never (λ e. cc)
-same_turns_decides (t ∷ ts) [] = decides_never (λ e. cc)
-same_turns_decides (t ∷ ts) (u ∷ us) =
-    Decides-like _ (λ h i. h.0 i ∷ h.1 i) (λ e. (cc, cc)) (Decides-and _ _ (same_turn_decides t u) (same_turns_decides ts us))
+same_turns_decides ts us = slice_eq-Decides same_turn_decides ts us _ refl
 
 pub same_play_decides : (p q : Play) → Decides (same_play p q) (p ≡ q)
 same_play_decides p q =

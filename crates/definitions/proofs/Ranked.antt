@@ -1,24 +1,18 @@
 -- Levels fit exactly where no head comes back to itself through something that must lie below it.
 use Rattle.std.proofs.Common.{◌≡◌, ℕ, ◌<◌, ◌≤◌, Bool, true, false, ◌||◌, ◌⊎◌, List, Decides, refl, subst, inl, inr, arith}
 use Rattle.std.proofs.lemmas.Bool.Decides.{Decides-or, not_from_Decides}
-use Rattle.definitions.specs.Form.{Atom, Literal, settled, bare, negated, Rule}
+use Rattle.definitions.specs.Form.{Atom, Rule}
 use Rattle.definitions.specs.Lists.{In, joined, any}
-use Rattle.definitions.specs.Level.{same_atom, named, under_not, body, uses, strict_uses, Depends, by_rule, onward, Respects, reaches, comes_back, LevelsLeast, NoLevels}
-use Rattle.definitions.proofs.Listed.{in_left, in_right, in_append, in_joined, joined_in, any_decides, count, count_grows, count_rises}
+use Rattle.definitions.specs.Level.{same_atom, under_not, body, uses, strict_uses, Depends, by_rule, onward, Respects, reaches, comes_back, LevelsLeast, NoLevels}
+use Rattle.definitions.proofs.Listed.{in_left, in_right, in_append, any_decides, count, count_grows, count_rises}
 use Rattle.definitions.proofs.Atoms.{same_atom_decides}
 use Rattle.definitions.proofs.Reach.{depends_in, reaches_decides}
+use Rattle.definitions.proofs.Fires.{negated_in_body}
+use Rattle.definitions.proofs.Judged.{coming_back_decided}
 use Rattle.definitions.proofs.Least.{least_levels}
 
-under_named : (l : Literal ℕ) {a : Atom ℕ} → In a (under_not l) → In a (named l)
-under_named (settled b) i = i
-under_named (bare b) i = elim i [ ]
-under_named (negated b) i = i
-
 pub strict_used : (r : Rule ℕ) {a : Atom ℕ} → In a (strict_uses r) → In a (uses r)
-strict_used r {a} i = elim (in_append (joined under_not (body r)) _ i) [ inl j ↦ plain (joined_in under_not (body r) j) | inr j ↦ in_right _ j ]
-  where
-    plain : (l : Literal ℕ) × In l (body r) × In a (under_not l) → In a (uses r)
-    plain u = in_left _ (in_joined named u.1 (under_named u.0 u.2))
+strict_used r {a} i = elim (in_append (joined under_not (body r)) _ i) [ inl j ↦ in_left _ (negated_in_body r j) | inr j ↦ in_right _ j ]
 
 module _ (rules : List (Rule ℕ)) where
   -- an atom is the head of a rule or depends on it
@@ -35,7 +29,7 @@ module _ (rules : List (Rule ℕ)) where
   ComesBack r = (a : Atom ℕ) × In a (strict_uses r) × Leads a r
 
   comes_back_decides : Decides (any (comes_back rules) rules) ((r : Rule ℕ) × In r rules × ComesBack r)
-  comes_back_decides = any_decides (comes_back rules) ComesBack (λ r. any_decides (λ a. leads a r) (λ a. Leads a r) (λ a. leads_decides a r) (strict_uses r)) rules
+  comes_back_decides = any_decides (comes_back rules) ComesBack (coming_back_decided rules) rules
 
   depends_lower : (l : Atom ℕ → ℕ) → Respects l rules → {a b : Atom ℕ} → Depends rules a b → l b ≤ l a
   depends_lower l fits {a} d = depends_in (λ c. l c ≤ l a) (λ r i low b j. omega (arith, (fits r i).0 b j)) d (omega arith)

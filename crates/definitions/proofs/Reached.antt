@@ -1,14 +1,15 @@
 -- What holds in every state that a run reaches.
 use Rattle.std.proofs.Common.{◌≡◌, ℕ, zero, suc, ◌+◌, ◌<◌, ◌⊎◌, List, [], ◌∷◌, length, get_or, set, replicate, Some, None, Option, sym, refl, ap, ◌∙◌, subst₂, inl, inr, ⊎_elim, add-one, arith}
 use Rattle.std.proofs.lemmas.List.{length-map, length-set, length_push, set_past, get_or-map, get_or-set_same, get_or-set_other}
+use Rattle.std.proofs.lemmas.List.FromFn.{length-map-range_with_len}
 use Rattle.std.proofs.lemmas.Bool.{cases_eq, cases_lt}
 use Rattle.definitions.specs.Lists.{In, upto}
 use Rattle.definitions.specs.Ruleset.{Game, roles}
 use Rattle.definitions.specs.Play.{Play, no_play, frame, after, joint_moves, successors, knowledge, next_book, book, LegalIn, uneven}
 use Rattle.definitions.specs.Match.{Table, State, Call, commit, retract, close, tell, moves, known, common, rounds, holds, terminal, goal, plays, real_knowledge, real_play, own_moves, committed, missing, chosen, next_real, closed_with, step}
 use Rattle.definitions.specs.Law.{Request, call, end}
-use Rattle.definitions.proofs.Elements.{in_cases}
-use Rattle.definitions.proofs.Upto.{in_upto, length_upto, get_or_map_upto, among_decides}
+use Rattle.definitions.proofs.Listed.{either_in}
+use Rattle.definitions.proofs.Upto.{in_upto, get_or_map_upto, among_decides}
 use Rattle.definitions.proofs.Joint.{legal_joint}
 use Rattle.definitions.proofs.Evenness.{knowing_length}
 use Rattle.definitions.proofs.Positions.{HoldsAt, position_at, follow_at}
@@ -42,8 +43,8 @@ noted t s (q ∷ rs) e r i = go (committed t s q) refl e (λ h j. noted t s rs h
   where
     go : (o : Option ℕ) → committed t s q ≡ o → ◌≡◌ {A = Option ℕ} (elim o [ None ↦ Some q | Some m ↦ missing t s rs ]) None
         → (missing t s rs ≡ None → In r rs → (m : ℕ) × (committed t s r ≡ Some m)) → (m : ℕ) × (committed t s r ≡ Some m)
-    go None f h further = let z : ◌≡◌ {A = ℕ} 0 1 = cc in absurd (omega arith)
-    go (Some m) f h further = ⊎_elim (λ same. (m, ap (committed t s) same ∙ f)) (further h) (in_cases i)
+    go None f h further = cc
+    go (Some m) f h further = ⊎_elim (λ same. (m, ap (committed t s) (sym same) ∙ f)) (further h) (either_in i)
 
 -- the real play goes on
 abbrev pub next_plays : Table → State → List Play
@@ -62,7 +63,7 @@ module _ (t : Table) (s : State) where
   module _ (h : Reached t s) (full : missing t s (upto (roles g)) ≡ None) where
     chosen_legal : LegalIn g (real_play t s) (real_knowledge t s) (chosen t s)
     chosen_legal = (
-      length-map (upto (roles g)) _ ∙ length_upto (roles g),
+      length-map-range_with_len _ 0 (roles g),
       λ r few. let (m, e) = noted t s (upto (roles g)) full r (in_upto few) in rw (chosen_move r m few e) (h.legal r m few e),
     )
 
@@ -84,7 +85,7 @@ module _ (t : Table) (s : State) where
       booked = rw add-one (ap (next_book g t.deal) h.booked);
       low = next_at.below;
       eight = refl;
-      legal = λ r m few e. let f = none_noted 8 r in let z : ◌≡◌ {A = ℕ} 0 1 = cc in absurd (omega arith);
+      legal = λ r m few e. let f = none_noted 8 r in cc;
       even = even;
       rounds = ap (λ p. length p.turns) next_play ∙ length_push (real_play t s).turns _ ∙ ap (λ n. n + 1) h.rounds;
     }
@@ -106,7 +107,7 @@ module _ (t : Table) (s : State) where
         booked = h.booked;
         low = h.low;
         eight = length-set s.commits r None ∙ h.eight;
-        legal = λ q k few n. ⊎_elim (λ w. let f = w.1 in let z : ◌≡◌ {A = ℕ} 0 1 = cc in absurd (omega arith)) (h.legal q k few) (set_some s.commits r q k None n);
+        legal = λ q k few n. ⊎_elim (λ w. let f = w.1 in cc) (h.legal q k few) (set_some s.commits r q k None n);
         even = h.even;
         rounds = h.rounds;
       })

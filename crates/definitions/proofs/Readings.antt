@@ -9,10 +9,11 @@ use Rattle.definitions.specs.Holds.{holds}
 use Rattle.definitions.specs.Ruleset.{Game, roles, SoundGame}
 use Rattle.definitions.specs.Deal.{Deal, state_where}
 use Rattle.definitions.specs.Play.{Play, alike, moves_of, percepts_of, features, before, legal_moves, after, PlayChain, none, more, Plays, PlaysOne}
+use Rattle.definitions.proofs.Listed.{true_itself}
 use Rattle.definitions.proofs.Agreed.{Agree, agree_none, position_with, holds_same}
 
 both_true : (X Y : Play → Bool) → ((p : Play) → X p ≡ true → Y p ≡ true) → ((p : Play) → Y p ≡ true → X p ≡ true) → X ≡ Y
-both_true X Y f b = fun_ext λ p. same_from_decides (X p) (Y p) (f p, b p) (λ e. e, λ e. e)
+both_true X Y f b = fun_ext λ p. same_from_decides (X p) (Y p) (f p, b p) (true_itself (Y p))
 
 chain_legal : {g : Game} {d : Deal} {X : Play → Bool} {p u : Play} → X p ≡ true → PlayChain g d X p u → X u ≡ true
 chain_legal l none = l

@@ -2,19 +2,20 @@
 use Rattle.std.proofs.Common.{◌≡◌, ◌<◌, Bool, List, [], ◌∷◌, get_or, sym, refl, ap, ◌∙◌, subst, ⊎_elim, arith}
 use Rattle.std.proofs.lemmas.List.{get_or_default}
 use Rattle.definitions.specs.Lists.{In, here, there, first_like, Same, FirstAppearance}
-use Rattle.definitions.proofs.Elements.{in_cases, in_any, any_in}
+use Rattle.definitions.proofs.Listed.{either_in, any_true}
+use Rattle.definitions.proofs.Elements.{in_any}
 use Rattle.definitions.proofs.Firsts.{like_place, like_same}
 use Rattle.definitions.proofs.Pairwise.{Pairwise, places_pairwise}
 
 module _ {X : Type 0} (R : X → X → Type 0) (one_way : (x y : X) → R x y → R y x → ⊥) where
   same_first : (y z : X) (ys zs : List X) → Pairwise R (y ∷ ys) → Pairwise R (z ∷ zs) → In y (z ∷ zs) → In z (y ∷ ys) → y ≡ z
   same_first y z ys zs p q h k =
-      ⊎_elim (λ e. e) (λ l. ⊎_elim sym (λ m. absurd (one_way y z (p.0 z m) (q.0 y l))) (in_cases k)) (in_cases h)
+      ⊎_elim sym (λ l. ⊎_elim (λ e. e) (λ m. absurd (one_way y z (p.0 z m) (q.0 y l))) (either_in k)) (either_in h)
 
   -- the rest of one list is in the rest of the other
   rest_in : (y z : X) (ys zs : List X) → Pairwise R (y ∷ ys) → y ≡ z → (x : X) → In x ys → In x (z ∷ zs) → In x zs
   rest_in y z ys zs p e x h k =
-      ⊎_elim (λ f. let r = subst (R y) (f ∙ sym e) (p.0 x h) in absurd (one_way y y r r)) (λ l. l) (in_cases k)
+      ⊎_elim (λ f. let r = subst (R y) (sym (e ∙ f)) (p.0 x h) in absurd (one_way y y r r)) (λ l. l) (either_in k)
 
   same_ordered : (ys zs : List X) → Pairwise R ys → Pairwise R zs → ((x : X) → In x ys → In x zs) → ((x : X) → In x zs → In x ys) → ys ≡ zs
   same_ordered [] [] p q f g = refl
@@ -30,7 +31,7 @@ module _ {X : Type 0} (R : X → X → Type 0) (one_way : (x y : X) → R x y �
 module _ {X : Type 0} (same : X → X → Bool) (laws : Same same) where
   all_in : (xs ys zs : List X) → FirstAppearance same xs ys → FirstAppearance same xs zs → (x : X) → In x ys → In x zs
   all_in xs ys zs h k x l =
-      let r = any_in _ zs (k.every x (h.from x l)) in
+      let r = (any_true _ zs).0 (k.every x (h.from x l)) in
       let n = first_like same xs x in
       let at_x = h.first x l in
       let inside = (like_place same xs x (in_any _ (h.from x l) (laws.itself x))).0 in

@@ -1,9 +1,10 @@
 -- In plays that a player can't tell apart the player has the same view.
-use Rattle.std.proofs.Common.{◌≡◌, ℕ, ◌<◌, Bool, true, false, ◌&&◌, List, [], ◌∷◌, ◌++◌, length, get_or, Some, None, Option, sym, refl, ap, ◌∙◌, subst, arith, MatchOption}
+use Rattle.std.proofs.Common.{◌≡◌, ℕ, ◌<◌, Bool, true, false, ◌&&◌, List, [], ◌∷◌, ◌++◌, length, get_or, None, sym, refl, ap, ◌∙◌, subst}
 use mathlib.Core.Path.{fun_ext}
 use Rattle.std.proofs.lemmas.List.{get_or_push}
 use Rattle.std.proofs.lemmas.Bool.{ltb-true, and_parts, and_from, eq-eqb, false≢true}
 use Rattle.std.proofs.lemmas.Bool.Decides.{same_from_decides, Decides-like}
+use Rattle.std.proofs.lemmas.Option.{MatchOption-at_none}
 use Rattle.definitions.specs.Form.{Atom}
 use Rattle.definitions.specs.Lists.{Same}
 use Rattle.definitions.specs.Level.{member}
@@ -44,12 +45,8 @@ module _ (g : Game) (sound : SoundGame g) (d : Deal) (ps : List Play) (r i j : �
   common_same p small = same_from_decides _ _ (knows.shared i p low small)
       (Decides-like _ (λ h v c. h v (chain_from r few low turned c)) (λ h v c. h v (chain_from r few below same c)) (knows.shared j p below small))
 
-at_none : (P : Type 0) (Q : ℕ → Type 0) (o : Option ℕ) → o ≡ None → MatchOption o P Q → P
-at_none P Q None e h = h
-at_none P Q (Some r) e h = let z : ◌≡◌ {A = ℕ} 0 1 = cc in absurd (omega arith)
-
 even_for : (g : Game) (d : Deal) (ps : List Play) → uneven g d ps ≡ None → (r : ℕ) → r < roles g → is_player g r ≡ true → Even g d ps r
-even_for g d ps e = at_none _ _ (uneven g d ps) e (evenness_judged g d ps)
+even_for g d ps e = MatchOption-at_none _ _ e (evenness_judged g d ps)
 
 asked_same : (t : Table) (b : Bool) (x y : Answer) → (b ≡ true → x ≡ y) → asked_of t b x ≡ asked_of t b y
 asked_same t true x y h = h refl

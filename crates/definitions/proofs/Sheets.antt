@@ -33,20 +33,20 @@ module _ (fuel p : ℕ) (s : Sheet) (k : ℕ) (bs : List ℕ) where
     where
       from_note : (n : ℕ) → body_length k ≡ Some n → n ≤ length bs → (v : Verdict Sheet) → first_of n ≡ v → then v (rest_of n) ≡ accepted t → First t
       from_note n e low (accepted u) f h = (n, u, e, low, f, h)
-      from_note n e low (refused x) f h = let z : ◌≡◌ {A = ℕ} 0 1 = cc in absurd (omega arith)
+      from_note n e low (refused x) f h = cc
 
       from_length : (n : ℕ) → body_length k ≡ Some n → (b : Bool) → leb n (length bs) ≡ b → by_length n b ≡ accepted t → First t
       from_length n e true f h = from_note n e (leb-true _ _ f) (first_of n) refl h
-      from_length n e false f h = let z : ◌≡◌ {A = ℕ} 0 1 = cc in absurd (omega arith)
+      from_length n e false f h = cc
 
       from_kind : (o : Option ℕ) → body_length k ≡ o → by_kind o ≡ accepted t → First t
-      from_kind None e h = let z : ◌≡◌ {A = ℕ} 0 1 = cc in absurd (omega arith)
+      from_kind None e h = cc
       from_kind (Some n) e h = from_length n e (leb n (length bs)) refl h
 
 -- what is accepted is laid out as records
 records_laid : (fuel p : ℕ) (s : Sheet) (bs : List ℕ) (t : Sheet) → records fuel p s bs ≡ accepted t → (laid : List Laid) × (joined laid_bytes laid ≡ bs) × Grown s (joined worlds_in laid) (joined reals_in laid) t
 records_laid fuel p s [] t h = ([], refl, subst (Grown s [] []) (cc) (grown_none s))
-records_laid zero p s (k ∷ bs) t h = let z : ◌≡◌ {A = ℕ} 0 1 = cc in absurd (omega arith)
+records_laid zero p s (k ∷ bs) t h = cc
 records_laid (suc fuel) p s (k ∷ bs) t h =
     let (n, u, e, low, f, on) = records_first fuel p s k bs t h in
     let (laid, bytes, grown) = records_laid fuel (p + 1 + n) u (drop n bs) t on in
@@ -73,12 +73,12 @@ records_accepts (l ∷ laid) (suc fuel) p s low room =
     let (t, on, more) = records_accepts laid fuel (p + 1 + length l.content) u short (room_rest (joined worlds_in laid) (joined reals_in laid) grown room) in
     (t, records_more fuel p s l (joined laid_bytes laid) ∙ ap (λ v. then v (λ x. records fuel (p + 1 + length l.content) x (joined laid_bytes laid))) f ∙ on, grown_more grown more)
 
+abbrev pub blank : Sheet
+blank = record { worlds = []; real = None }
+
 pub sheets_decided : SheetsDecided
 sheets_decided bs = judged read refl
   where
-    blank : Sheet
-    blank = record { worlds = []; real = None }
-
     read : Verdict Sheet
     read = records (length bs) 0 blank bs
 
@@ -93,7 +93,7 @@ sheets_decided bs = judged read refl
         (t, subst (λ xs. records (length bs) 0 blank xs ≡ accepted t) h.bytes on, grown.worlds, sym h.one ∙ grown.real)
 
     settles : (ws : List (ℕ × List ℕ)) (o : Option (ℕ × ℕ)) → let t : Sheet = record { worlds = ws; real = o } in read ≡ accepted t → Judged (settled (length bs) t)
-    settles ws None e = λ d h. let (t, f, worlds, real) = led d h in let z : ◌≡◌ {A = ℕ} 0 1 = cc in omega arith
+    settles ws None e = λ d h. let (t, f, worlds, real) = led d h in cc
     settles ws (Some r) e =
         cond_both (ltb r.1 (length ws)) (accepted _) (refused _) Judged
         (λ b.
@@ -118,4 +118,4 @@ sheets_decided bs = judged read refl
 
     judged : (v : Verdict Sheet) → read ≡ v → Judged (then v (settled (length bs)))
     judged (accepted t) e = settles t.worlds t.real e
-    judged (refused r) e = λ d h. let (t, f, worlds, real) = led d h in let z : ◌≡◌ {A = ℕ} 0 1 = cc in omega arith
+    judged (refused r) e = λ d h. let (t, f, worlds, real) = led d h in cc

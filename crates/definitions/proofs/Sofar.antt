@@ -1,16 +1,17 @@
 -- What has been read so far is cut into pieces.
 use Rattle.std.proofs.Common.{◌≡◌, ℕ, List, [], ◌∷◌, ◌++◌, length, sym, subst, append-nil, zero-add}
+use Rattle.std.proofs.lemmas.List.Concat.{flat_map-append}
 use Rattle.definitions.specs.Term.{Tree}
 use Rattle.definitions.specs.Text.{Piece, bytes, Sound, Stand, stand, Next, tokens, Levels, spread, Hold, Begins, Outside}
 use Rattle.definitions.specs.Reading.{Mode, add, settle}
-use Rattle.definitions.proofs.Pieces.{joined_append, each_append, stand_append, chained_append, tokens_append}
+use Rattle.definitions.proofs.Pieces.{each_append, stand_append, chained_append, tokens_append}
 use Rattle.definitions.proofs.Levels.{spread_add, hold_add}
 use Rattle.definitions.proofs.Stands.{stand_in, may_follow}
 
 pub begins_more : {front : List ℕ} {ps : List Piece} {ls : Levels} → Begins front ps ls → (p : Piece) (ks : Levels) → Sound p → Next (stand Stand.between ps) p → spread ks ≡ spread ls ++ tokens (length front) (p ∷ []) → Hold ks → Begins (front ++ bytes p) (ps ++ p ∷ []) ks
 begins_more {front} {ps} {ls} h p ks sound fits spells holds = record {
   cut = record {
-    whole = rw (joined_append ps (p ∷ []), h.cut.whole, append-nil);
+    whole = rw (flat_map-append bytes ps (p ∷ []), h.cut.whole, append-nil);
     sound = each_append ps (p ∷ []) h.cut.sound (sound, tt);
     longest = chained_append Stand.between ps (p ∷ []) h.cut.longest (fits, tt);
   };

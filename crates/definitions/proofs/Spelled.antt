@@ -1,18 +1,15 @@
 -- Words and terms are compared as they are spelled, and each keyword has a spelling of its own.
-use Rattle.std.proofs.Common.{◌≡◌, ℕ, eqb, ◌↔◌, List, [], ◌∷◌, Some, None, Decides, Option, sym, refl, ap, ◌∙◌, arith}
+use Rattle.std.proofs.Common.{◌≡◌, ℕ, ◌↔◌, List, [], ◌∷◌, Some, None, Decides, Option, sym, refl, ap, ◌∙◌}
 use Rattle.std.proofs.lemmas.Bool.{cond_both}
-use Rattle.std.proofs.lemmas.Bool.Decides.{Decides-eqb, Decides-and, Decides-like}
+use Rattle.std.proofs.lemmas.Bool.Decides.{Decides-and, Decides-like}
+use Rattle.std.proofs.lemmas.Slice.Eq.{bytes_eq-Decides}
 use Rattle.definitions.specs.Lists.{Same}
 use Rattle.definitions.specs.Term.{Tree, none, ◌&◌, Term, Terms}
 use Rattle.definitions.specs.Form.{Keyword, spelling, same_word, keywords, among, keyword, same_term, same_terms}
 use Rattle.definitions.proofs.Deciding.{decides_never, same_by_key}
 
 pub same_word_decides : (v w : List ℕ) → Decides (same_word v w) (v ≡ w)
-same_word_decides [] [] = ((λ e. refl), λ e. refl)
-same_word_decides [] (c ∷ cs) = decides_never (λ e. cc)
-same_word_decides (b ∷ bs) [] = decides_never (λ e. cc)
-same_word_decides (b ∷ bs) (c ∷ cs) =
-    Decides-like _ (λ h i. h.0 i ∷ h.1 i) (λ e. (cc, cc)) (Decides-and (eqb b c) (same_word bs cs) (Decides-eqb b c) (same_word_decides bs cs))
+same_word_decides = bytes_eq-Decides
 
 mutual
   pub same_term_decides : (t u : Term) → Decides (same_term t u) (t ≡ u)
@@ -48,7 +45,7 @@ keyword_spelling Keyword.disjunction = refl
 keyword_spelling Keyword.arrow = refl
 
 among_spelling : (ks : List Keyword) (w : List ℕ) (k : Keyword) → among ks w ≡ Some k → w ≡ spelling k
-among_spelling [] w k = λ e. let z : ◌≡◌ {A = ℕ} 0 1 = cc in absurd (omega arith)
+among_spelling [] w k = λ e. cc
 among_spelling (j ∷ ks) w k =
     cond_both (same_word (spelling j) w) (Some j) (among ks w) (λ o. o ≡ Some k → w ≡ spelling k)
     (λ b e. let f = (same_word_decides (spelling j) w).0 b in let g : j ≡ k = cc in sym f ∙ ap spelling g)
@@ -59,7 +56,7 @@ pub keyword_names : (w : List ℕ) → ((k : Keyword) → (keyword w ≡ Some k)
 keyword_names w = (
   (λ k. (among_spelling keywords w k, λ e. ap keyword e ∙ keyword_spelling k)),
   (
-    (λ e k f. let g = ap keyword f ∙ keyword_spelling k in let z : ◌≡◌ {A = ℕ} 0 1 = cc in omega arith),
+    (λ e k f. let g = ap keyword f ∙ keyword_spelling k in cc),
     λ h. go h (keyword w) refl,
   ),
 )

@@ -6,8 +6,8 @@ use Rattle.definitions.specs.Form.{Atom, Rule}
 use Rattle.definitions.specs.Lists.{In}
 use Rattle.definitions.specs.Level.{Respects, level, highest}
 use Rattle.definitions.specs.Holds.{Atoms, SameBelow, Standard, with_derived, climb, given, StandardOne, HoldsStandard}
-use Rattle.definitions.proofs.Listed.{in_left, most_above}
-use Rattle.definitions.proofs.Fires.{true_itself, fires_same}
+use Rattle.definitions.proofs.Listed.{in_left, true_itself, most_above}
+use Rattle.definitions.proofs.Fires.{fires_same}
 use Rattle.definitions.proofs.Derive.{climb_closed}
 use Rattle.definitions.proofs.Climb.{given_above, climb_settled, climb_within}
 

@@ -1,5 +1,5 @@
 -- How the pieces so far end, and what may follow them.
-use Rattle.std.proofs.Common.{◌≡◌, ℕ, refl, arith}
+use Rattle.std.proofs.Common.{◌≡◌, refl}
 use Rattle.definitions.specs.Text.{Piece, Stand, Next}
 use Rattle.definitions.specs.Reading.{Mode}
 
@@ -19,10 +19,10 @@ NoWord (Piece.divider c) = Unit {0}
 NoWord (Piece.comment cs) = Unit {0}
 
 pub free_between : Free Stand.between
-free_between e = let z : ◌≡◌ {A = ℕ} 0 1 = cc in absurd (omega arith)
+free_between e = cc
 
 pub free_word : Free Stand.in_word
-free_word e = let z : ◌≡◌ {A = ℕ} 0 1 = cc in absurd (omega arith)
+free_word e = cc
 
 pub may_follow : (s : Stand) (p : Piece) → Free s → NoWord p → Next s p
 may_follow Stand.between p free other = tt

@@ -1,18 +1,15 @@
 -- What a sheet is after records with which nothing is wrong, and after one record more.
 use Rattle.std.proofs.Common.{◌≡◌, ℕ, ◌+◌, ◌<◌, ltb, List, [], ◌∷◌, ◌++◌, length, Some, None, Option, sym, refl, ap, ◌∙◌, arith}
-use Rattle.std.proofs.lemmas.List.{append-nil, append_assoc, length-append, length_push}
+use Rattle.std.proofs.lemmas.List.{flat_map_more, append-nil, append_assoc, length-append, length_push}
+use Rattle.std.proofs.lemmas.List.Concat.{flat_map-append}
 use Rattle.std.proofs.lemmas.Bool.{cond_both, ltb-true, ltb-false}
 use Rattle.definitions.specs.Refusal.{Verdict, accepted, refused, AtVerdict}
 use Rattle.definitions.specs.Lists.{joined}
 use Rattle.definitions.specs.Deal.{Record, Sheet, in_deal, record_of, noted, Laid, laid_length, worlds_in, reals_in, FineSoFar}
 use Rattle.definitions.proofs.Noted.{worlds_of, reals_of}
 
-pub joined_append : {X Y : Type 0} (f : X → List Y) (xs ys : List X) → joined f (xs ++ ys) ≡ joined f xs ++ joined f ys
-joined_append f [] ys = refl
-joined_append f (x ∷ xs) ys = ap (λ l. f x ++ l) (joined_append f xs ys) ∙ sym (append_assoc (f x) (joined f xs) (joined f ys))
-
 pub joined_push : {X Y : Type 0} (f : X → List Y) (xs : List X) (x : X) → joined f (xs ++ x ∷ []) ≡ joined f xs ++ f x
-joined_push f xs x = joined_append f xs (x ∷ []) ∙ ap (λ l. joined f xs ++ l) (append-nil (f x))
+joined_push f xs x = sym (flat_map_more f [] xs x)
 
 -- the real world w has its record at place q
 pub record RealAt (done : List Laid) (q w : ℕ) : Type 0 where
@@ -33,7 +30,7 @@ pub record Tallied (done : List Laid) (s : Sheet) : Type 0 where
 
 pub reals_split : (before : List Laid) (l : Laid) (after : List Laid) (w : ℕ) → reals_in l ≡ w ∷ [] → length (joined reals_in (before ++ l ∷ after)) ≡ length (joined reals_in before) + 1 + length (joined reals_in after)
 reals_split before l after w e =
-    ap length (joined_append reals_in before (l ∷ after))
+    ap length (flat_map-append reals_in before (l ∷ after))
     ∙ length-append (joined reals_in before) (reals_in l ++ joined reals_in after)
     ∙ ap (λ xs. length (joined reals_in before) + length (xs ++ joined reals_in after)) e
     ∙ omega arith

@@ -1,6 +1,6 @@
 -- The numbers below a bound, elements of a mapped list, and numbers among others.
-use Rattle.std.proofs.Common.{◌≡◌, ℕ, zero, suc, ◌+◌, ◌<◌, ◌≤◌, true, eqb, List, [], ◌∷◌, map, length, get_or, Decides, refl, ap, ◌∙◌, ⊎_elim, arith}
-use Rattle.std.proofs.lemmas.List.{get_or-map}
+use Rattle.std.proofs.Common.{◌≡◌, ℕ, zero, suc, ◌+◌, ◌<◌, ◌≤◌, true, eqb, List, [], ◌∷◌, map, get_or, Decides, refl, ⊎_elim, zero-add, arith}
+use Rattle.std.proofs.lemmas.List.FromFn.{get_or-map-range_with_len}
 use Rattle.std.proofs.lemmas.Bool.{false≢true, cond_both, cases_eq, eqb-true, eqb-false}
 use Rattle.definitions.specs.Lists.{In, here, there, from_to, upto}
 use Rattle.definitions.specs.Deal.{among}
@@ -30,22 +30,8 @@ upto_in n h = omega (arith, from_to_in 0 n h)
 pub in_upto : {i n : ℕ} → i < n → In i (upto n)
 in_upto {i} {n} h = in_from_to i 0 n (omega arith) (omega arith)
 
-length_from_to : (a n : ℕ) → length (from_to a n) ≡ n
-length_from_to a zero = refl
-length_from_to a (suc n) = ap suc (length_from_to (a + 1) n)
-
-pub length_upto : (n : ℕ) → length (upto n) ≡ n
-length_upto n = length_from_to 0 n
-
-get_or_from_to : (a n i : ℕ) → i < n → get_or (from_to a n) i 0 ≡ a + i
-get_or_from_to a zero i h = absurd (omega arith)
-get_or_from_to a (suc n) zero h = omega arith
-get_or_from_to a (suc n) (suc i) h = let k = get_or_from_to (a + 1) n i (omega arith) in omega arith
-
 pub get_or_map_upto : {Y : Type 0} (f : ℕ → Y) (n i : ℕ) (d : Y) → i < n → get_or (map f (upto n)) i d ≡ f i
-get_or_map_upto f n i d h =
-    let e : get_or (upto n) i 0 ≡ i = omega (arith, get_or_from_to 0 n i h) in
-    get_or-map f (upto n) i 0 d (omega (arith, length_upto n)) ∙ ap f e
+get_or_map_upto f n i d h = get_or-map-range_with_len f 0 n i i d h (zero-add i)
 
 pub among_decides : (xs : List ℕ) (n : ℕ) → Decides (among xs n) (In n xs)
 among_decides [] n = (λ e. absurd (false≢true e), λ h. elim h [ ])

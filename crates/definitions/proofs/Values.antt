@@ -1,7 +1,8 @@
 -- A word is a value exactly if it is the decimal numeral of a number up to 100.
-use Rattle.std.proofs.Common.{◌≡◌, ℕ, ◌+◌, ◌-◌, ◌*◌, ◌/◌, ◌%◌, ◌<◌, ◌≤◌, Bool, true, false, not, ◌&&◌, eqb, leb, ◌↔◌, List, [], ◌∷◌, ◌++◌, Some, decimal, sym, refl, ap, ◌∙◌, subst, ⊎_elim, arith}
+use Rattle.std.proofs.Common.{◌≡◌, ℕ, ◌+◌, ◌-◌, ◌*◌, ◌/◌, ◌%◌, ◌<◌, ◌≤◌, Bool, true, not, ◌&&◌, eqb, leb, ◌↔◌, List, [], ◌∷◌, ◌++◌, Some, decimal, sym, ap, ◌∙◌, subst, ⊎_elim, arith}
 use Rattle.std.proofs.lemmas.Fmt.{decimal_digit, decimal_step}
 use Rattle.std.proofs.lemmas.Bool.{cases_lt, and_parts, and_from, leb-true, le-leb, eqb-true, eqb-false, ne_eqb, not-true, not_from_false}
+use Rattle.std.proofs.lemmas.Option.{cond_some}
 use Rattle.definitions.specs.Term.{Tree}
 use Rattle.definitions.specs.Form.{when, digit, value}
 
@@ -14,10 +15,6 @@ decimal_two a b h k l =
 decimal_hundred : decimal 100 ≡ 49 ∷ 48 ∷ 48 ∷ []
 decimal_hundred = decimal_step 100 (omega arith) (omega arith) ∙ ap (λ ds. ds ++ 48 ∷ []) (decimal_two 1 0 (omega arith) (omega arith) (omega arith))
 
-when_some : {X : Type 0} (b : Bool) (x y : X) → when b x ≡ Some y → (b ≡ true) × (x ≡ y)
-when_some true x y e = (refl, cc)
-when_some false x y e = let z : ◌≡◌ {A = ℕ} 0 1 = cc in absurd (omega arith)
-
 some_when : {X : Type 0} (b : Bool) (x y : X) → b ≡ true → x ≡ y → when b x ≡ Some y
 some_when b x y e f = rw (e, f)
 
@@ -28,14 +25,14 @@ digit_from : (a : ℕ) → a < 10 → digit (48 + a) ≡ true
 digit_from a h = and_from _ _ (le-leb 48 (48 + a) (omega arith)) (le-leb (48 + a) 57 (omega arith))
 
 value_is_decimal : (w : List ℕ) (n : ℕ) → value (Tree.word tt w) ≡ Some n → (n ≤ 100) × (w ≡ decimal n)
-value_is_decimal [] n e = let z : ◌≡◌ {A = ℕ} 0 1 = cc in absurd (omega arith)
+value_is_decimal [] n e = cc
 value_is_decimal (c ∷ []) n e =
-    let (t, is) = when_some (digit c) (c - 48) n e in
+    let (t, is) = cond_some (digit c) (c - 48) n e in
     let (low, high) = digit_bounds c t in
     let same : 48 + n ≡ c = omega arith in
     (omega arith, sym (decimal_digit n (omega arith) ∙ ap (λ x. x ∷ []) same))
 value_is_decimal (c ∷ d ∷ []) n e =
-    let (t, is) = when_some (digit c && digit d && not (eqb c 48)) (10 * (c - 48) + (d - 48)) n e in
+    let (t, is) = cond_some (digit c && digit d && not (eqb c 48)) (10 * (c - 48) + (d - 48)) n e in
     let (both, more) = and_parts (digit c && digit d) (not (eqb c 48)) t in
     let (tc, td) = and_parts (digit c) (digit d) both in
     let (c_low, c_high) = digit_bounds c tc in
@@ -45,11 +42,11 @@ value_is_decimal (c ∷ d ∷ []) n e =
     let same_d : d ≡ 48 + (d - 48) = omega arith in
     (omega arith, (λ i. same_c i ∷ same_d i ∷ []) ∙ sym (decimal_two (c - 48) (d - 48) (omega arith) (omega arith) (omega arith)) ∙ ap decimal is)
 value_is_decimal (c ∷ d ∷ g ∷ []) n e =
-    let (t, is) = when_some (eqb c 49 && eqb d 48 && eqb g 48) 100 n e in
+    let (t, is) = cond_some (eqb c 49 && eqb d 48 && eqb g 48) 100 n e in
     let (both, third) = and_parts (eqb c 49 && eqb d 48) (eqb g 48) t in
     let (first, second) = and_parts (eqb c 49) (eqb d 48) both in
     (omega arith, (λ i. eqb-true c 49 first i ∷ eqb-true d 48 second i ∷ eqb-true g 48 third i ∷ []) ∙ sym decimal_hundred ∙ ap decimal is)
-value_is_decimal (c ∷ d ∷ g ∷ f ∷ w) n e = let z : ◌≡◌ {A = ℕ} 0 1 = cc in absurd (omega arith)
+value_is_decimal (c ∷ d ∷ g ∷ f ∷ w) n e = cc
 
 -- the numeral of n has the value n
 abbrev Returns : ℕ → Type 0

@@ -1,5 +1,5 @@
 -- What an accepted verdict was given for: each step before it was passed.
-use Rattle.std.proofs.Common.{◌≡◌, ℕ, Bool, true, false, cond, List, [], ◌∷◌, map, Some, None, Option, refl, subst, arith}
+use Rattle.std.proofs.Common.{◌≡◌, ℕ, Bool, true, false, cond, List, [], ◌∷◌, map, Some, None, Option, refl, subst}
 use Rattle.std.proofs.lemmas.Bool.{or_from}
 use Rattle.definitions.specs.Refusal.{Refusal, Verdict, accepted, refused}
 use Rattle.definitions.specs.Term.{none, ◌&◌, Term, Placed}
@@ -11,29 +11,26 @@ use Rattle.definitions.specs.Numbering.{counted}
 use Rattle.definitions.specs.Level.{comes_back, looks_ahead}
 use Rattle.definitions.specs.Ruleset.{Ruled, in_rules, place_of, one_more, then, forms_verdict, declared, first_place, refused_at, Game, rule_such, game, checked, some_role, game_verdict}
 
-refused_never : {X P : Type 0} {r : Refusal} {x : X} → refused r ≡ accepted x → P
-refused_never e = let z : ◌≡◌ {A = ℕ} 0 1 = cc in absurd (omega arith)
-
 accepted_same : {X : Type 0} {x y : X} → accepted x ≡ accepted y → x ≡ y
 accepted_same e = cc
 
 then_accepted : {X Y : Type 0} (v : Verdict X) (f : X → Verdict Y) {y : Y} → then v f ≡ accepted y → (x : X) × (v ≡ accepted x) × (f x ≡ accepted y)
 then_accepted (accepted x) f e = (x, refl, e)
-then_accepted (refused r) f e = refused_never e
+then_accepted (refused r) f e = cc
 
 refused_at_accepted : {X : Type 0} (n : ℕ) (o : Option ℕ) (v : Verdict X) {x : X} → refused_at n o v ≡ accepted x → (o ≡ None) × (v ≡ accepted x)
 refused_at_accepted n None v e = (refl, e)
-refused_at_accepted n (Some p) v e = refused_never e
+refused_at_accepted n (Some p) v e = cc
 
 cond_accepted : {X : Type 0} (b : Bool) (x : X) (r : Refusal) {y : X} → cond b (accepted x) (refused r) ≡ accepted y → (b ≡ true) × (x ≡ y)
 cond_accepted true x r e = (refl, accepted_same e)
-cond_accepted false x r e = refused_never e
+cond_accepted false x r e = cc
 
 abbrev pub forms_of : List Ruled → List Form
 forms_of fs = map (λ r. r.form) fs
 
 one_more_counted : (fs : List Ruled) (p : ℕ) (o : Option Form) {more : List Ruled} → one_more fs p o ≡ accepted more → counted (forms_of more) ≡ true
-one_more_counted fs p None e = refused_never e
+one_more_counted fs p None e = cc
 one_more_counted fs p (Some f) e = let (c, same) = cond_accepted _ _ _ e in subst (λ rs. counted (forms_of rs) ≡ true) same c
 
 forms_counted : (fs : List Ruled) (ts : Placed) {end : List Ruled} → counted (forms_of fs) ≡ true → forms_verdict fs ts ≡ accepted end → counted (forms_of end) ≡ true
@@ -47,14 +44,14 @@ no_place f [] e = refl
 no_place f (r ∷ rs) e = let (b, rest) = passed (f r) e in or_from (f r) (any f rs) b (no_place f rs rest)
   where
     passed : (b : Bool) → cond b (Some r.place) (first_place f rs) ≡ None → (b ≡ false) × (first_place f rs ≡ None)
-    passed true e = let z : ◌≡◌ {A = ℕ} 0 1 = cc in absurd (omega arith)
+    passed true e = cc
     passed false e = (refl, e)
 
 some_role_accepted : (end : ℕ) (fs : List Ruled) {g : Game} → some_role end fs ≡ accepted g → (r : Term) × In r (declared (forms_of fs)) × (checked fs ≡ accepted g)
 some_role_accepted end fs {g} e = go (declared (forms_of fs)) e
   where
     go : (ds : List Term) → elim ds [ [] ↦ refused (in_rules 6 end) | r ∷ rs ↦ checked fs ] ≡ accepted g → (r : Term) × In r ds × (checked fs ≡ accepted g)
-    go [] e = refused_never e
+    go [] e = cc
     go (r ∷ rs) e = (r, here, e)
 
 -- the forms of an accepted text: their counts, a declared role, and no rule that passes one of the two tests

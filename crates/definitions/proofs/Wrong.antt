@@ -1,19 +1,20 @@
 -- A sheet that is wrong at a place is refused there, and no other sheet is refused.
 use Rattle.std.proofs.Common.{◌≡◌, ℕ, zero, suc, ◌+◌, ◌≤◌, ltb, List, [], ◌∷◌, ◌++◌, length, Some, None, Option, sym, refl, ap, ◌∙◌, subst, arith}
 use Rattle.std.proofs.lemmas.List.{append-nil, append_assoc, length-append}
+use Rattle.std.proofs.lemmas.List.Concat.{flat_map-append}
 use Rattle.std.proofs.lemmas.Bool.{cond-false, le-ltb, lt-leb}
 use Rattle.definitions.specs.Refusal.{Verdict, accepted, refused, AtVerdict}
 use Rattle.definitions.specs.Lists.{joined}
 use Rattle.definitions.specs.Ruleset.{then}
 use Rattle.definitions.specs.Deal.{Deal, Sheet, in_deal, record_of, noted, records, settled, sheet_verdict, Laid, laid_bytes, laid_length, worlds_in, reals_in, FineSoFar, SheetWrong, unknown_kind, cut_body, one_too_many, no_real, real_no_world, SheetsRefused}
-use Rattle.definitions.proofs.Sheets.{by_length, by_kind, records_more}
-use Rattle.definitions.proofs.Tallied.{joined_append, Placed, Tallied, TalliedMore, reals_split, real_counted, noted_tallied}
+use Rattle.definitions.proofs.Sheets.{by_length, by_kind, records_more, blank}
+use Rattle.definitions.proofs.Tallied.{Placed, Tallied, TalliedMore, reals_split, real_counted, noted_tallied}
 use Rattle.definitions.proofs.Stopped.{laid_length_push, WrongAt, refused_wrong}
 
 fine_first : (xs ys : List Laid) → FineSoFar (xs ++ ys) → FineSoFar xs
 fine_first xs ys h = record {
-  few = omega (arith, h.few, ap length (joined_append worlds_in xs ys), length-append (joined worlds_in xs) (joined worlds_in ys));
-  one = omega (arith, h.one, ap length (joined_append reals_in xs ys), length-append (joined reals_in xs) (joined reals_in ys));
+  few = omega (arith, h.few, ap length (flat_map-append worlds_in xs ys), length-append (joined worlds_in xs) (joined worlds_in ys));
+  one = omega (arith, h.one, ap length (flat_map-append reals_in xs ys), length-append (joined reals_in xs) (joined reals_in ys));
 }
 
 noted_fine : (done : List Laid) (l : Laid) → FineSoFar (done ++ l ∷ []) → (v : Verdict Sheet) → TalliedMore done l v → (u : Sheet) × (v ≡ accepted u) × Tallied (done ++ l ∷ []) u
@@ -44,9 +45,6 @@ run (l ∷ more) done (suc fuel) s rest h fine low =
     ∙ ap (λ v. then v (λ x. records fuel (p + 1 + length l.content) x (bytes ++ rest))) f
     ∙ ap (λ q. records fuel q u (bytes ++ rest)) (sym (laid_length_push done l)) in
     subst (λ d. Run d rest (records (suc fuel) p s ((laid_bytes l ++ bytes) ++ rest))) split (t, left, k, ◌∙◌ {c = records left (laid_length ((done ++ l ∷ []) ++ more)) t rest} first e)
-
-abbrev blank : Sheet
-blank = record { worlds = []; real = None }
 
 blank_tallied : Tallied [] blank
 blank_tallied = record { fine = record { few = omega arith; one = omega arith }; worlds = refl; placed = refl }
@@ -123,5 +121,5 @@ pub sheets_refused : SheetsRefused
 sheets_refused bs = go (sheet_verdict bs) refl (refused_wrong bs (length bs) [] blank bs blank_tallied refl (omega arith))
   where
     go : (v : Verdict Deal) → sheet_verdict bs ≡ v → WrongAt bs v → AtVerdict v (λ d. (p : ℕ) → SheetWrong bs p → ⊥) (λ r. (p : ℕ) × (r ≡ in_deal 11 p) × SheetWrong bs p × ((q : ℕ) → SheetWrong bs q → q ≡ p))
-    go (accepted d) e h = λ p wrong. let f = wrong_refused bs p wrong in let z : ◌≡◌ {A = ℕ} 0 1 = cc in omega arith
+    go (accepted d) e h = λ p wrong. let f = wrong_refused bs p wrong in cc
     go (refused r) e (p, f, wrong) = (p, f, wrong, λ q other. let g = wrong_refused bs q other in let same : r ≡ in_deal 11 q = cc in ap (λ x. x.place) (sym same ∙ f))

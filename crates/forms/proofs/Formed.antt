@@ -1,84 +1,89 @@
--- Which form a term is, by its parts.
-use Rattle.std.proofs.Common.{◌≡◌, ℕ, Bool, true, false, List, [], ◌∷◌, map, length, Some, None, Err, Option, sym, refl, ap, ◌∙◌, ⊎_elim, arith}
-use Rattle.std.proofs.lemmas.Bool.{cases_eq}
-use Rattle.std.specs.Option.{option_map}
+-- Which form a term is, by what comes first in it.
+use Rattle.std.proofs.Common.{◌≡◌, ℕ, Bool, true, false, List, [], ◌∷◌, ◌++◌, map, Some, None, Err, Option, sym, refl, ap, ◌∙◌, append-nil}
 use Rattle.definitions.specs.Form as form
-use Rattle.definitions.specs.Form.{Keyword, list, when, after, map_some, all_of, part, a_rule, a_declaration, led_by}
-use Rattle.definitions.specs.Term.{Tree, Trees, ◌&◌, Term, Terms, bare, bares}
-use Rattle.definitions.specs.Text.{flats}
+use Rattle.definitions.specs.Form.{Keyword, Rule, spelling, same_word, list, led_by, after, all_of, part, a_rule, map_some}
+use Rattle.definitions.specs.Term as terms
+use Rattle.definitions.specs.Term.{Tree, none, ◌&◌, Placed, bare}
+use Rattle.definitions.specs.Text.{flat, flats}
+use Rattle.definitions.proofs.Spelled.{same_word_decides}
+use Rattle.text.specs.declared.term.Terms.{Terms}
 use Rattle.text.specs.declared.token.Token.{Token}
-use Rattle.text.specs.Span.{span, Spans}
+use Rattle.text.specs.Spelt as spelt
+use Rattle.text.specs.Terms.{trees, listed}
 use Rattle.text.specs.View.{token}
-use Rattle.forms.specs.declared.body.FormFault.{FormFault}
-use Rattle.forms.specs.Atoms.{term_view, OneIs}
-use Rattle.forms.specs.Formed.{Declared, FormIs, bodiless, led_form}
-use Rattle.forms.specs.Whole.{Parts, BodyIs}
-use Rattle.forms.proofs.Taken.{TwoMore, zero_terms, one_arg}
-use Rattle.forms.proofs.Viewed.{Name}
+use Rattle.text.proofs.Spelt.{terms_flats, is_term}
+use Rattle.forms.specs.declared.fault.FormFault.{FormFault}
+use Rattle.forms.specs.Args.{only}
+use Rattle.forms.specs.Bodies.{Put}
+use Rattle.forms.specs.Formed.{FormIs, led_form}
+use Rattle.forms.specs.View.{terms_view}
 
-pub declared_is : (r : Option Name) (ts : List Term) → OneIs r ts → Declared r ts
-declared_is None [] h f = refl
-declared_is (Some x) [] h f = let e = h form.Atom.role in let z : ◌≡◌ {A = ℕ} 0 1 = cc in absurd (omega arith)
-declared_is None (t ∷ u ∷ ts) h f = refl
-declared_is (Some x) (t ∷ u ∷ ts) h f = let e = h form.Atom.role in let z : ◌≡◌ {A = ℕ} 0 1 = cc in absurd (omega arith)
-declared_is r (t ∷ []) h f = go (form.is_term t) r (h form.Atom.role)
+spelt_form : (k : Keyword) (ts : terms.Terms) → led_form k (list ts) (Tree.pair tt (Tree.word tt (spelling k) & ts)) ≡ form.form (Tree.pair tt (Tree.word tt (spelling k) & ts))
+spelt_form Keyword.role ts = refl
+spelt_form Keyword.init ts = refl
+spelt_form Keyword.true_now ts = refl
+spelt_form Keyword.next ts = refl
+spelt_form Keyword.legal ts = refl
+spelt_form Keyword.does ts = refl
+spelt_form Keyword.sees ts = refl
+spelt_form Keyword.goal ts = refl
+spelt_form Keyword.terminal ts = refl
+spelt_form Keyword.knows ts = refl
+spelt_form Keyword.distinct ts = refl
+spelt_form Keyword.negation ts = refl
+spelt_form Keyword.disjunction ts = refl
+spelt_form Keyword.arrow ts = refl
+
+pub led_form_is : (k : Keyword) (ts : List terms.Term) (u : terms.Term) → led_by k u ≡ Some ts → led_form k ts u ≡ form.form u
+led_form_is k ts (Tree.word p w) e = cc
+led_form_is k ts (Tree.pair p none) e = cc
+led_form_is k ts (Tree.pair p (Tree.pair q us & vs)) e = cc
+led_form_is k ts (Tree.pair p (Tree.word q w & vs)) e = go (same_word (spelling k) w) refl e
   where
-    go : (b : Bool) (o : Option Name) → option_map (λ x. form.Atom.role (term_view x)) o ≡ when b (form.Atom.role t) → option_map (λ x. f (term_view x)) o ≡ when b (f t)
-    go true None e = let z : ◌≡◌ {A = ℕ} 0 1 = cc in absurd (omega arith)
-    go true (Some x) e = let same : term_view x ≡ t = cc in ap (λ y. Some (f y)) same
-    go false None e = refl
-    go false (Some x) e = let z : ◌≡◌ {A = ℕ} 0 1 = cc in absurd (omega arith)
+    go : (b : Bool) → same_word (spelling k) w ≡ b → form.when b (list vs) ≡ Some ts → led_form k ts (Tree.pair tt (Tree.word tt w & vs)) ≡ form.form (Tree.pair tt (Tree.word tt w & vs))
+    go false same e = cc
+    go true same e =
+        let here : list vs ≡ ts = cc in
+        let word : spelling k ≡ w = (same_word_decides (spelling k) w).0 same in
+        (λ i. led_form k (sym here i) (Tree.pair tt (Tree.word tt (sym word i) & vs))) ∙ spelt_form k vs ∙ ap (λ v. form.form (Tree.pair tt (Tree.word tt v & vs))) word
 
--- with nothing after the first term there is no rule
-pub no_parts : Spans → (xs : List Token) (n : ℕ) (ts : Trees ℕ) → n ≡ span 0 (map token xs) → n ≡ length xs → map token xs ≡ flats ts → a_rule (list (bares ts)) ≡ None
-no_parts law xs n ts long all is =
-    ⊎_elim
-    (λ few. ap (λ us. a_rule (list (bares us))) (zero_terms xs ts few is))
-    (λ some. ap (λ us. a_rule (list (bares us))) (one_arg law xs n ts (omega (arith, some)) long all is).1)
-    (cases_eq (length xs) 0)
+-- a rule of a head and at least one part
+abbrev ruled : terms.Term → Option (List (List (form.Literal terms.Term))) → Option form.Form
+ruled h o = after (form.head h) (λ a. map_some (λ ps. form.Form.rules (record { head = a; parts = ps })) o)
 
-module _ (xs : List Token) (n : ℕ) (ts : Trees ℕ) (h : TwoMore xs n ts) where
-  by_parts : a_rule (list (bares ts)) ≡ after (form.head (bare h.one)) (λ a. map_some (λ bs. form.Form.rules (record { head = a; parts = bs })) (all_of part (list (bares (h.two & h.others)))))
-  by_parts = ap (λ us. a_rule (list (bares us))) h.split
+pub rule_split : (us : List terms.Term) (h : terms.Term) (rest : Terms) → us ≡ h ∷ terms_view rest → (trees rest ≡ none → ⊥) → a_rule us ≡ ruled h (all_of part (terms_view rest))
+rule_split us h rest is some = ap a_rule is ∙ go (trees rest) some
+  where
+    go : (ts : Placed) → (ts ≡ none → ⊥) → a_rule (h ∷ map bare (listed ts)) ≡ ruled h (all_of part (map bare (listed ts)))
+    go none n = absurd (n refl)
+    go (t & ts) n = refl
 
-  pub no_head : None ≡ form.head (bare h.one) → a_rule (list (bares ts)) ≡ None
-  no_head e = by_parts ∙ ap (λ o. after o (λ a. map_some (λ bs. form.Form.rules (record { head = a; parts = bs })) (all_of part (list (bares (h.two & h.others)))))) (sym e)
+pub rule_stops : (us : List terms.Term) (h : terms.Term) (rest : Terms) (a : form.Atom terms.Term) (f : FormFault) (old new : List (List (form.Literal terms.Term))) → us ≡ h ∷ terms_view rest → (trees rest ≡ none → ⊥) → Some a ≡ form.head h → Put (Err f) old new (all_of part (terms_view rest)) → FormIs (Err f) (a_rule us)
+rule_stops us h rest a (FormFault.Memory e) old new is some led put = tt
+rule_stops us h rest a FormFault.Broken old new is some led put =
+    rule_split us h rest is some ∙ ap (ruled h) put ∙ ap (λ o. after o (λ b. None)) (sym led)
 
-  pub whole_rule : (a : form.Atom Term) (o : Option Parts) → Some a ≡ form.head (bare h.one) → all_of part (list (bares (h.two & h.others))) ≡ o → a_rule (list (bares ts)) ≡ map_some (λ bs. form.Form.rules (record { head = a; parts = bs })) o
-  whole_rule a o e f =
-      by_parts
-      ∙ ap (λ c. after c (λ b. map_some (λ bs. form.Form.rules (record { head = b; parts = bs })) (all_of part (list (bares (h.two & h.others)))))) (sym e)
-      ∙ ap (map_some (λ bs. form.Form.rules (record { head = a; parts = bs }))) f
+pub rule_whole : (us : List terms.Term) (h : terms.Term) (rest : Terms) (a : form.Atom terms.Term) (old new : List (List (form.Literal terms.Term))) → us ≡ h ∷ terms_view rest → (trees rest ≡ none → ⊥) → Some a ≡ form.head h → old ≡ [] → map_some (λ ps. old ++ ps) (all_of part (terms_view rest)) ≡ Some new → a_rule us ≡ Some (form.Form.rules (record { head = a; parts = new }))
+rule_whole us h rest a old new is some led start put =
+    rule_split us h rest is some
+    ∙ ap (ruled h) (given (all_of part (terms_view rest)) put)
+    ∙ ap (λ o. after o (λ b. Some (form.Form.rules (record { head = b; parts = new })))) (sym led)
+  where
+    given : (o : Option (List (List (form.Literal terms.Term)))) → map_some (λ ps. old ++ ps) o ≡ Some new → o ≡ Some new
+    given None e = cc
+    given (Some ps) e = ap (λ qs. Some (qs ++ ps)) (sym start) ∙ e
 
-  pub rule_stops : (a : form.Atom Term) (f : FormFault) → Some a ≡ form.head (bare h.one) → BodyIs (Err f) (all_of part (list (bares (h.two & h.others)))) → FormIs (Err f) (a_rule (list (bares ts)))
-  rule_stops a FormFault.Memory e is = tt
-  rule_stops a FormFault.Broken e is = whole_rule a None e is
+-- the tokens of one term are those of one term alone
+pub sole : (xs : List Token) (ts : Terms) (u : Tree ℕ) → map token xs ≡ flats (trees ts) → map token xs ≡ flat u → only (terms_view ts) ≡ Some (bare u)
+sole xs ts u here is =
+    let same : trees ts ≡ u & none = sym (terms_flats (trees ts)) ∙ ap spelt.terms (sym here ∙ is ∙ sym (append-nil (flat u))) ∙ terms_flats (u & none) in
+    ap (λ us. only (map bare (listed us))) same
 
--- by what follows `role`, `init` and the arrow, or else as a rule with no parts
-abbrev formed : Option (List Term) → Option (List Term) → Option (List Term) → Option form.Form → Option form.Form
-formed r i w o = elim r [
-  | Some ts ↦ a_declaration form.Form.declares ts
-  | None ↦ elim i [
-    | Some ts ↦ a_declaration form.Form.opens ts
-    | None ↦ elim w [ Some ts ↦ a_rule ts | None ↦ o ]
-  ]
-]
-
-pub unled_form : (t : Term) → ((k : Keyword) → led_by k t ≡ None) → bodiless t ≡ form.form t
-unled_form t h = sym (λ i. formed (h Keyword.role i) (h Keyword.init i) (h Keyword.arrow i) (bodiless t))
-
-pub led_form_is : (k : Keyword) (ts : Terms) → led_form k (list ts) (Tree.pair tt (Tree.word tt (form.spelling k) & ts)) ≡ form.form (Tree.pair tt (Tree.word tt (form.spelling k) & ts))
-led_form_is Keyword.role ts = refl
-led_form_is Keyword.init ts = refl
-led_form_is Keyword.true_now ts = refl
-led_form_is Keyword.next ts = refl
-led_form_is Keyword.legal ts = refl
-led_form_is Keyword.does ts = refl
-led_form_is Keyword.sees ts = refl
-led_form_is Keyword.goal ts = refl
-led_form_is Keyword.terminal ts = refl
-led_form_is Keyword.knows ts = refl
-led_form_is Keyword.distinct ts = refl
-led_form_is Keyword.negation ts = refl
-led_form_is Keyword.disjunction ts = refl
-led_form_is Keyword.arrow ts = refl
+-- tokens of terms of which there is only one are those of a term
+pub alone_whole : (xs : List Token) (ts : Terms) (t : terms.Term) → map token xs ≡ flats (trees ts) → Some t ≡ only (terms_view ts) → spelt.IsTerm (map token xs)
+alone_whole xs ts t here is = go (trees ts) is here
+  where
+    go : (us : Placed) → Some t ≡ only (map bare (listed us)) → map token xs ≡ flats us → spelt.IsTerm (map token xs)
+    go none e h = cc
+    go (u & none) e h = is_term (map token xs) u (h ∙ append-nil (flat u))
+    go (u & (v & us)) e h = cc

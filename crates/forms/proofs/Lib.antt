@@ -1,12 +1,6 @@
 pub mod Named
-pub mod Taken
+pub mod Listed
+pub mod Shaped
 pub mod Headed
-pub mod Others
-pub mod Regrown
-pub mod Viewed
-pub mod Same
-pub mod Led
 pub mod Putting
-pub mod Alternatives
-pub mod Bodied
 pub mod Formed

@@ -1,72 +1,56 @@
--- What some terms give, taken one after the other.
-use Rattle.std.proofs.Common.{◌≡◌, ℕ, ◌+◌, ◌-◌, ◌<◌, ◌≤◌, List, [], ◌∷◌, ◌++◌, map, length, take, drop, Some, None, Option, sym, refl, ap, ◌∙◌, append_assoc, append-nil, arith}
-use Rattle.std.proofs.lemmas.List.{take_rest, drop-drop, drop_all, length-drop}
-use Rattle.definitions.specs.Form.{list, all_of, after, map_some}
-use Rattle.definitions.specs.Term.{Tree, Trees, none, Term, bare, bares}
-use Rattle.definitions.specs.Text.{flat, flats}
-use Rattle.text.specs.declared.token.Token.{Token}
-use Rattle.text.specs.Span.{span, Spans}
-use Rattle.text.specs.View.{token}
-use Rattle.forms.proofs.Taken.{First, first_of, zero_terms}
+-- What some terms give, put one after the other.
+use Rattle.std.proofs.Common.{◌≡◌, List, [], ◌∷◌, ◌++◌, map, Some, None, Ok, Err, Option, Result, sym, refl, ap, ◌∙◌, append_assoc, append-nil}
+use Rattle.definitions.specs.Form.{all_of, after, map_some, literal}
+use Rattle.definitions.specs.Term.{Term, Placed, none, ◌&◌, bare}
+use Rattle.text.specs.declared.term.Terms.{Terms}
+use Rattle.text.specs.Terms.{trees, listed}
+use Rattle.forms.specs.declared.fault.FormFault.{FormFault}
+use Rattle.forms.specs.Bodies.{Added, Put, alternatives}
+use Rattle.forms.specs.View.{terms_view}
 
--- what the terms before a token give is had, and what those after it give makes the rest
-abbrev pub Sofar : {X : Type 0} → (Term → Option X) → List Token → ℕ → (List X → Type 0) → Type 0
-Sofar {X} f xs from Has =
-    (ts : Trees ℕ) → map token xs ≡ flats ts →
-    (us : Trees ℕ) × (some : List X) × Has some × (map token (drop from xs) ≡ flats us) × (all_of f (list (bares ts)) ≡ map_some (λ ls. some ++ ls) (all_of f (list (bares us))))
+-- what all give, after what was there, is what those that are left give, after what is there
+abbrev pub Sofar : {X : Type 0} → (Term → Option X) → List Term → List Term → List X → List X → Type 0
+Sofar f all rest old new = map_some (λ xs. old ++ xs) (all_of f all) ≡ map_some (λ xs. new ++ xs) (all_of f rest)
 
--- what the term whose n tokens stand from a place on gives
-abbrev pub Here : List Token → ℕ → ℕ → (Term → Type 0) → Type 0
-Here xs from n P = (u : Tree ℕ) → map token (take (from + n - from) (drop from xs)) ≡ flat u → P (bare u)
+one_more : {X : Type 0} (mid new : List X) (o : Option X) (p : Option (List X)) → map_some (λ x. mid ++ x ∷ []) o ≡ Some new → map_some (λ xs. mid ++ xs) (after o (λ y. map_some (λ ys. y ∷ ys) p)) ≡ map_some (λ xs. new ++ xs) p
+one_more mid new None p e = cc
+one_more mid new (Some x) None e = refl
+one_more mid new (Some x) (Some xs) e =
+    let grown : mid ++ x ∷ [] ≡ new = cc in
+    ap Some (sym (append_assoc mid (x ∷ []) xs) ∙ ap (λ ys. ys ++ xs) grown)
 
-abbrev pub Reaches : List Token → ℕ → ℕ → Type 0
-Reaches xs from n = n ≡ span 0 (map token (take (length xs - from) (drop from xs)))
+pub sofar_more : {X : Type 0} (f : Term → Option X) (all left rest : List Term) (t : Term) (old mid new : List X) → Sofar f all left old mid → left ≡ t ∷ rest → map_some (λ x. mid ++ x ∷ []) (f t) ≡ Some new → Sofar f all rest old new
+sofar_more f all left rest t old mid new sofar is put =
+    sofar ∙ ap (λ us. map_some (λ xs. mid ++ xs) (all_of f us)) is ∙ one_more mid new (f t) (all_of f rest) put
 
-same_some : {X : Type 0} (o : Option X) → o ≡ map_some (λ x. x) o
-same_some None = refl
-same_some (Some x) = refl
+nothing : {X : Type 0} (old : List X) (o : Option (List X)) → map_some (λ xs. old ++ xs) o ≡ None → o ≡ None
+nothing old None e = refl
+nothing old (Some xs) e = cc
 
-more_some : {X : Type 0} (xs : List X) (y : X) (o : Option (List X)) → map_some (λ ls. xs ++ ls) (map_some (λ ls. y ∷ ls) o) ≡ map_some (λ ls. (xs ++ y ∷ []) ++ ls) o
-more_some xs y None = refl
-more_some xs y (Some zs) = ap Some (sym (append_assoc xs (y ∷ []) zs))
+pub sofar_broken : {X : Type 0} (f : Term → Option X) (all left rest : List Term) (t : Term) (old mid : List X) → Sofar f all left old mid → left ≡ t ∷ rest → f t ≡ None → all_of f all ≡ None
+sofar_broken f all left rest t old mid sofar is none_there =
+    nothing old (all_of f all) (sofar ∙ ap (λ us. map_some (λ xs. mid ++ xs) (all_of f us)) is ∙ ap (λ o. map_some (λ xs. mid ++ xs) (after o (λ y. map_some (λ ys. y ∷ ys) (all_of f rest)))) none_there)
 
-next_of : Spans → (xs : List Token) (from n : ℕ) (us : Trees ℕ) → from < length xs → Reaches xs from n → map token (drop from xs) ≡ flats us → First (drop from xs) n us
-next_of law xs from n us lt long rest =
-    first_of law (drop from xs) n us (rw length-drop (omega arith)) (long ∙ ap (λ ys. span 0 (map token ys)) (take_rest xs from)) rest
+pub sofar_all : {X : Type 0} (f : Term → Option X) (all left : List Term) (old new : List X) → Sofar f all left old new → left ≡ [] → map_some (λ xs. old ++ xs) (all_of f all) ≡ Some new
+sofar_all f all left old new sofar is = sofar ∙ ap (λ us. map_some (λ xs. new ++ xs) (all_of f us)) is ∙ ap Some (append-nil new)
 
-here_of : (xs : List Token) (from n : ℕ) (u : Tree ℕ) → map token (take n (drop from xs)) ≡ flat u → map token (take (from + n - from) (drop from xs)) ≡ flat u
-here_of xs from n u is = let less : from + n - from ≡ n = omega arith in ap (λ k. map token (take k (drop from xs))) less ∙ is
+-- what is added alone
+pub alone_put : {X : Type 0} (r : Result (Unit {0}) FormFault) (old new : List X) (o : Option X) → Added r old new o → Put r old new (map_some (λ x. x ∷ []) o)
+alone_put (Ok u) old new None h = cc
+alone_put (Ok u) old new (Some x) h = h
+alone_put (Err (FormFault.Memory e)) old new o h = tt
+alone_put (Err FormFault.Broken) old new o h = ap (map_some (λ x. x ∷ [])) h
 
-pub sofar_none : {X : Type 0} (f : Term → Option X) (xs : List Token) (Has : List X → Type 0) → Has [] → Sofar f xs 0 Has
-sofar_none f xs Has h ts is = (ts, [], h, is, same_some (all_of f (list (bares ts))))
+-- what is put where nothing was, and added
+pub whole_added : {X : Type 0} (old new : List (List X)) (start some : List X) (o : Option (List X)) → start ≡ [] → map_some (λ xs. start ++ xs) o ≡ Some some → new ≡ old ++ some ∷ [] → map_some (λ xs. old ++ xs ∷ []) o ≡ Some new
+whole_added old new start some None empty h is = cc
+whole_added old new start some (Some xs) empty h is =
+    let same : start ++ xs ≡ some = cc in
+    ap Some (ap (λ ys. old ++ ys ∷ []) (ap (λ ys. ys ++ xs) (sym empty) ∙ same) ∙ sym is)
 
--- one term more
-pub sofar_more : {X : Type 0} (f : Term → Option X) → Spans → (xs : List Token) (from n : ℕ) (Had Has : List X → Type 0) → from < length xs → Reaches xs from n → Here xs from n (λ t. (some : List X) → Had some → (x : X) × (f t ≡ Some x) × Has (some ++ x ∷ [])) → Sofar f xs from Had → Sofar f xs (from + n) Has
-sofar_more f law xs from n Had Has lt long put sofar ts is =
-    let (us, some, had, rest, left) = sofar ts is in
-    let g = next_of law xs from n us lt long rest in
-    let (x, gives, has) = put g.one (here_of xs from n g.one g.here) some had in (
-      g.others,
-      some ++ x ∷ [],
-      has,
-      ap (map token) (sym (drop-drop n from xs)) ∙ g.rest,
-      left
-          ∙ ap (λ vs. map_some (λ ms. some ++ ms) (all_of f (list (bares vs)))) g.split
-          ∙ ap (λ o. map_some (λ ms. some ++ ms) (after o (λ y. map_some (λ ys. y ∷ ys) (all_of f (list (bares g.others)))))) gives
-          ∙ more_some some x (all_of f (list (bares g.others))),
-    )
-
--- a term that gives nothing
-pub sofar_broken : {X : Type 0} (f : Term → Option X) → Spans → (xs : List Token) (from n : ℕ) (Had : List X → Type 0) → from < length xs → Reaches xs from n → Here xs from n (λ t. f t ≡ None) → Sofar f xs from Had → (ts : Trees ℕ) → map token xs ≡ flats ts → all_of f (list (bares ts)) ≡ None
-sofar_broken f law xs from n Had lt long put sofar ts is =
-    let (us, some, had, rest, left) = sofar ts is in
-    let g = next_of law xs from n us lt long rest in
-    left
-    ∙ ap (λ vs. map_some (λ ms. some ++ ms) (all_of f (list (bares vs)))) g.split
-    ∙ ap (λ o. map_some (λ ms. some ++ ms) (after o (λ y. map_some (λ ys. y ∷ ys) (all_of f (list (bares g.others)))))) (put g.one (here_of xs from n g.one g.here))
-
-pub sofar_all : {X : Type 0} (f : Term → Option X) (xs : List Token) (from : ℕ) (Has : List X → Type 0) → length xs ≤ from → Sofar f xs from Has → (ts : Trees ℕ) → map token xs ≡ flats ts → (some : List X) × (all_of f (list (bares ts)) ≡ Some some) × Has some
-sofar_all f xs from Has done sofar ts is =
-    let (us, some, has, rest, left) = sofar ts is in
-    let end : us ≡ none = zero_terms (drop from xs) us (ap length (drop_all from xs done)) rest in
-    (some, left ∙ ap (λ vs. map_some (λ ms. some ++ ms) (all_of f (list (bares vs)))) end ∙ ap Some (append-nil some), has)
+pub some_alternatives : (ts : Terms) → (trees ts ≡ none → ⊥) → alternatives (terms_view ts) ≡ all_of literal (terms_view ts)
+some_alternatives ts some = go (trees ts) some
+  where
+    go : (us : Placed) → (us ≡ none → ⊥) → alternatives (map bare (listed us)) ≡ all_of literal (map bare (listed us))
+    go none h = absurd (h refl)
+    go (u & us) h = refl

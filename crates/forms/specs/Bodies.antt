@@ -1,50 +1,35 @@
--- What literals over tokens stand for in the definitions.
-use Rattle.std.specs.Prelude.{Bool, true, false, ◌&&◌, List, [], ◌∷◌, Some, None, Option}
-use Rattle.std.specs.Borrow.{Bor}
-use Rattle.definitions.specs.Term.{Term}
-use Rattle.definitions.specs.Text as text
+-- What the parts of a body stand for in the definitions, and what adding to some comes to.
+--     part_view, body_view    the alternatives of a part, and the parts of a body
+--     Added           one is added at the end, or there is none, or memory is wanting
+--     Put             some are added at the end, or there are none, or memory is wanting
+--     alternatives    the literals of an `or`, at least one
+use Rattle.std.specs.Prelude.{◌≡◌, Vec, List, [], ◌∷◌, ◌++◌, map, Some, None, Ok, Err, vec_items, Option, Result}
 use Rattle.definitions.specs.Form as form
-use Rattle.text.specs.declared.token.Token.{Token}
+use Rattle.definitions.specs.Form.{map_some}
+use Rattle.definitions.specs.Term.{Term}
+use Rattle.forms.specs.declared.body.Body.{Body}
+use Rattle.std.specs.declared.alloc.Global.{Global}
+use Rattle.text.specs.declared.term.Term as terms
+use Rattle.forms.specs.declared.fault.FormFault.{FormFault}
 use Rattle.forms.specs.declared.literal.Literal.{Literal}
-use Rattle.forms.specs.Atoms.{atom_view}
+use Rattle.forms.specs.Literals.{literal_view}
 
-abbrev pub literal_view : Literal (Bor (List Token)) → form.Literal Term
-literal_view (Literal.Settled b) = form.settled b
-literal_view (Literal.Bare a) = form.bare (atom_view a)
-literal_view (Literal.Negated a) = form.negated (atom_view a)
+abbrev pub part_view : Vec (Literal terms.Term) Global → List (form.Literal Term)
+part_view p = map literal_view (vec_items p)
 
--- the literal that a pair is, by the keyword that comes first, what follows it, and the whole
-abbrev pub pair_literal : Option form.Keyword → List Term → Term → Option (form.Literal Term)
-pair_literal (Some form.Keyword.negation) ts t = form.a_not ts
-pair_literal (Some form.Keyword.distinct) ts t = form.a_distinct ts
-pair_literal None ts t = form.map_some form.Literal.bare (form.atom t)
-pair_literal (Some form.Keyword.role) ts t = form.map_some form.Literal.bare (form.atom t)
-pair_literal (Some form.Keyword.init) ts t = form.map_some form.Literal.bare (form.atom t)
-pair_literal (Some form.Keyword.true_now) ts t = form.map_some form.Literal.bare (form.atom t)
-pair_literal (Some form.Keyword.next) ts t = form.map_some form.Literal.bare (form.atom t)
-pair_literal (Some form.Keyword.legal) ts t = form.map_some form.Literal.bare (form.atom t)
-pair_literal (Some form.Keyword.does) ts t = form.map_some form.Literal.bare (form.atom t)
-pair_literal (Some form.Keyword.sees) ts t = form.map_some form.Literal.bare (form.atom t)
-pair_literal (Some form.Keyword.goal) ts t = form.map_some form.Literal.bare (form.atom t)
-pair_literal (Some form.Keyword.terminal) ts t = form.map_some form.Literal.bare (form.atom t)
-pair_literal (Some form.Keyword.knows) ts t = form.map_some form.Literal.bare (form.atom t)
-pair_literal (Some form.Keyword.disjunction) ts t = form.map_some form.Literal.bare (form.atom t)
-pair_literal (Some form.Keyword.arrow) ts t = form.map_some form.Literal.bare (form.atom t)
+abbrev pub body_view : Body → List (List (form.Literal Term))
+body_view b = map part_view (vec_items b.parts)
 
--- tokens that differ in their places only
-abbrev pub alike : text.Token → text.Token → Bool
-alike (text.Token.word p v) (text.Token.word q w) = form.same_word v w
-alike (text.Token.word p v) (text.Token.opening q) = false
-alike (text.Token.word p v) text.Token.closing = false
-alike (text.Token.opening p) (text.Token.word q w) = false
-alike (text.Token.opening p) (text.Token.opening q) = true
-alike (text.Token.opening p) text.Token.closing = false
-alike text.Token.closing (text.Token.word q w) = false
-alike text.Token.closing (text.Token.opening q) = false
-alike text.Token.closing text.Token.closing = true
+abbrev pub Added : {X : Type 0} → Result (Unit {0}) FormFault → List X → List X → Option X → Type 0
+Added (Ok u) old new o = map_some (λ x. old ++ x ∷ []) o ≡ Some new
+Added (Err (FormFault.Memory e)) old new o = Unit {0}
+Added (Err FormFault.Broken) old new o = o ≡ None
 
-abbrev pub all_alike : List text.Token → List text.Token → Bool
-all_alike [] [] = true
-all_alike [] (y ∷ ys) = false
-all_alike (x ∷ xs) [] = false
-all_alike (x ∷ xs) (y ∷ ys) = alike x y && all_alike xs ys
+abbrev pub Put : {X : Type 0} → Result (Unit {0}) FormFault → List X → List X → Option (List X) → Type 0
+Put (Ok u) old new o = map_some (λ xs. old ++ xs) o ≡ Some new
+Put (Err (FormFault.Memory e)) old new o = Unit {0}
+Put (Err FormFault.Broken) old new o = o ≡ None
+
+abbrev pub alternatives : List Term → Option (List (form.Literal Term))
+alternatives [] = None
+alternatives (t ∷ ts) = form.all_of form.literal (t ∷ ts)

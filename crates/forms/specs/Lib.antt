@@ -1,8 +1,8 @@
 pub mod View
-pub mod Atoms
-pub mod Bodies
-pub mod Headed
 pub mod Shapes
-pub mod Parts
-pub mod Whole
+pub mod Headed
+pub mod Args
+pub mod Atoms
+pub mod Literals
+pub mod Bodies
 pub mod Formed

@@ -1,26 +1,36 @@
 -- What a term taken apart is.
---     ShapeIs     a word, a pair with a word first, or another pair
---     ArgsAre     none, one or two terms, or more
-use Rattle.std.specs.Prelude.{◌≡◌, ℕ, map}
-use Rattle.definitions.specs.Term.{Tree, Trees, none, ◌&◌}
-use Rattle.definitions.specs.Text.{flat, flats}
-use Rattle.text.specs.View.{token}
-use Rattle.forms.specs.declared.shape.Args.{Args}
+--     PairIs     what a pair round these terms is: with a word first, and then what follows it, or with none
+--     WordIs     this word
+--     ShapeIs    a word, or what a pair is
+--     Led        a pair begins with a keyword, and then what follows it, or with none
+use Rattle.std.specs.Prelude.{◌≡◌, ℕ, List, [], ◌∷◌, Some, None, Option}
+use Rattle.definitions.specs.Form as form
+use Rattle.definitions.specs.Term.{Tree, Term}
+use Rattle.text.specs.declared.term.Terms.{Terms}
+use Rattle.forms.specs.declared.keyword.Keyword.{Keyword}
 use Rattle.forms.specs.declared.shape.Shape.{Shape}
+use Rattle.forms.specs.View.{keyword_view, terms_view}
 
 -- no word comes first
-abbrev pub NoWordFirst : Trees ℕ → Type 0
-NoWordFirst none = Unit {0}
-NoWordFirst (Tree.word p w & ts) = ⊥
-NoWordFirst (Tree.pair p us & ts) = Unit {0}
+abbrev pub NoWordFirst : List Term → Type 0
+NoWordFirst [] = Unit {0}
+NoWordFirst (Tree.word p w ∷ ts) = ⊥
+NoWordFirst (Tree.pair p us ∷ ts) = Unit {0}
 
-abbrev pub ShapeIs : Shape → Tree ℕ → Type 0
-ShapeIs (Shape.Word w) u = (p : ℕ) × (u ≡ Tree.word p w.now)
-ShapeIs (Shape.Pair w rest) u = (p q : ℕ) × (ts : Trees ℕ) × (u ≡ Tree.pair p (Tree.word q w.now & ts)) × (map token rest.now ≡ flats ts)
-ShapeIs Shape.Other u = (p : ℕ) × (ts : Trees ℕ) × (u ≡ Tree.pair p ts) × NoWordFirst ts
+abbrev pub PairIs : Shape → List Term → Type 0
+PairIs (Shape.Word w) ts = ⊥
+PairIs (Shape.Pair w rest) ts = ts ≡ Tree.word tt w.now ∷ terms_view rest
+PairIs Shape.Other ts = NoWordFirst ts
 
-abbrev pub ArgsAre : Args → Trees ℕ → Type 0
-ArgsAre Args.Zero ts = ts ≡ none
-ArgsAre (Args.One x) ts = (t : Tree ℕ) × (ts ≡ t & none) × (map token x.now ≡ flat t)
-ArgsAre (Args.Two x y) ts = (t u : Tree ℕ) × (ts ≡ t & (u & none)) × (map token x.now ≡ flat t) × (map token y.now ≡ flat u)
-ArgsAre Args.More ts = (t u v : Tree ℕ) × (us : Trees ℕ) × (ts ≡ t & (u & (v & us)))
+abbrev pub WordIs : Shape → List ℕ → Type 0
+WordIs (Shape.Word w) v = v ≡ w.now
+WordIs (Shape.Pair w rest) v = ⊥
+WordIs Shape.Other v = ⊥
+
+abbrev pub ShapeIs : Shape → Term → Type 0
+ShapeIs s (Tree.word p v) = WordIs s v
+ShapeIs s (Tree.pair p ts) = PairIs s (form.list ts)
+
+abbrev pub Led : Option (Keyword × Terms) → Term → Type 0
+Led None u = (k : form.Keyword) → form.led_by k u ≡ None
+Led (Some (k, rest)) u = form.led_by (keyword_view k) u ≡ Some (terms_view rest)

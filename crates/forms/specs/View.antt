@@ -1,6 +1,14 @@
 -- What the values of this crate stand for in the definitions.
-use Rattle.std.specs.Prelude.{◌≡◌, ℕ, List, Some, None, Option, ◌≢◌}
+--     keyword_view    a keyword
+--     term_view       a term, without its places
+--     terms_view      a list of such terms
+--     Names           the keyword that a word is spelt as, or none
+use Rattle.std.specs.Prelude.{◌≡◌, ℕ, List, map, Some, None, Option, ◌≢◌}
 use Rattle.definitions.specs.Form as form
+use Rattle.definitions.specs.Term as terms
+use Rattle.text.specs.declared.term.Term.{Term}
+use Rattle.text.specs.declared.term.Terms.{Terms}
+use Rattle.text.specs.Terms.{tree, left}
 use Rattle.forms.specs.declared.keyword.Keyword.{Keyword}
 
 abbrev pub keyword_view : Keyword → form.Keyword
@@ -19,7 +27,12 @@ keyword_view Keyword.Not = form.Keyword.negation
 keyword_view Keyword.Or = form.Keyword.disjunction
 keyword_view Keyword.Arrow = form.Keyword.arrow
 
--- the keyword that a word is spelt as, or none
+abbrev pub term_view : Term → terms.Term
+term_view t = terms.bare (tree t)
+
+abbrev pub terms_view : Terms → List terms.Term
+terms_view ts = map terms.bare (left ts)
+
 abbrev pub Names : List ℕ → Option Keyword → Type 0
 Names w (Some k) = w ≡ form.spelling (keyword_view k)
 Names w None = (k : form.Keyword) → w ≢ form.spelling k

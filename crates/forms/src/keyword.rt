@@ -47,8 +47,8 @@ fn keyword_text(word: &str) -> Option<Keyword>
 pub(crate) fn keyword_of(word: &[u8]) -> Option<Keyword>
     ensures { option_map keyword_view result ≡ keyword word.now }
 {
-    match std::str::from_utf8(word) {
-        Ok(t) => keyword_text(t),
-        Err(_) => None,
-    }
+    let Ok(text) = std::str::from_utf8(word) else {
+        return None;
+    };
+    keyword_text(text)
 }

@@ -1,62 +1,49 @@
-// A term taken apart.
-ghost use Rattle.std.specs.Prelude.{◌≡◌, ℕ, map};
-ghost use Rattle.definitions.specs.Term.{Tree, Trees};
-ghost use Rattle.definitions.specs.Text.{flat, flats};
-ghost use Rattle.text.specs.View.{token};
-ghost use Rattle.forms.specs.Shapes.{ShapeIs, ArgsAre};
+// A term by what comes first in it.
+ghost use Rattle.std.specs.Prelude.{◌≡◌};
+ghost use Rattle.forms.specs.View.{term_view, terms_view};
+ghost use Rattle.forms.specs.Shapes.{ShapeIs, PairIs, Led};
 
-use text::{Token, term_len};
+use crate::keyword::{Keyword, keyword_of};
+use text::{Parts, Term, Terms};
 
 // A word, a pair with a word first and what follows it, or another pair.
 #[derive(Clone, Copy)]
 pub enum Shape<'t> {
     Word(&'t [u8]),
-    Pair(&'t [u8], &'t [Token<'t>]),
+    Pair(&'t [u8], Terms<'t>),
     Other,
 }
 
-pub(crate) fn shape_of<'t>(term: &'t [Token<'t>]) -> Shape<'t>
-    ensures { (u : Tree ℕ) → map token term.now ≡ flat u → ShapeIs result u }
+fn pair_shape<'t>(terms: Terms<'t>) -> Shape<'t>
+    ensures { PairIs result (terms_view terms.entry) }
 {
-    if term.is_empty() {
-        return Shape::Other;
-    }
-    if let Token::Word { at: _, spelling } = term[0] {
-        return Shape::Word(spelling);
-    }
-    if term.len() < 3 {
-        return Shape::Other;
-    }
-    match term[1] {
-        Token::Word { at: _, spelling } => Shape::Pair(spelling, &term[2..term.len() - 1]),
-        _ => Shape::Other,
+    let mut rest = terms;
+    match rest.next() {
+        Some(first) => match first.parts() {
+            Parts::Word(w) => Shape::Pair(w, rest),
+            Parts::Pair(_) => Shape::Other,
+        },
+        None => Shape::Other,
     }
 }
 
-// The terms after a keyword, as far as any form has them.
-#[derive(Clone, Copy)]
-pub enum Args<'t> {
-    Zero,
-    One(&'t [Token<'t>]),
-    Two(&'t [Token<'t>], &'t [Token<'t>]),
-    More,
+#[tactic(auto, using(crate::proofs::Shaped::pair_shaped))]
+pub(crate) fn shape_of<'t>(term: Term<'t>) -> Shape<'t>
+    ensures { ShapeIs result (term_view term.entry) }
+{
+    match term.parts() {
+        Parts::Word(w) => Shape::Word(w),
+        Parts::Pair(terms) => pair_shape(terms),
+    }
 }
 
-pub(crate) fn args_of<'t>(args: &'t [Token<'t>]) -> Args<'t>
-    ensures { (ts : Trees ℕ) → map token args.now ≡ flats ts → ArgsAre result ts }
+// The keyword that a pair begins with, and what follows it.
+#[tactic(auto, using(crate::proofs::Shaped::pair_led, crate::proofs::Shaped::pair_unled))]
+pub(crate) fn led_by<'t>(term: Term<'t>) -> Option<(Keyword, Terms<'t>)>
+    ensures { Led result (term_view term.entry) }
 {
-    if args.is_empty() {
-        return Args::Zero;
-    }
-    let one = term_len(args);
-    if one == args.len() {
-        return Args::One(args);
-    }
-    let first = &args[0..one];
-    let rest = &args[one..args.len()];
-    if term_len(rest) == rest.len() {
-        Args::Two(first, rest)
-    } else {
-        Args::More
+    match shape_of(term) {
+        Shape::Pair(w, args) => Some((keyword_of(w)?, args)),
+        _ => None,
     }
 }

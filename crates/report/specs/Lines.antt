@@ -7,21 +7,9 @@ use Rattle.std.specs.Prelude.{◌≡◌, ℕ, false, List, [], ◌∷◌, ◌++�
 use Rattle.std.specs.declared.alloc.AllocError.{AllocError}
 use Rattle.definitions.specs.Refusal.{Refusal, Verdict, accepted, refused}
 use Rattle.definitions.specs.Term.{Tree, none, ◌&◌, Placed}
-use Rattle.definitions.specs.Text.{Token, flat}
+use Rattle.definitions.specs.Text.{flat}
 use Rattle.definitions.specs.Writing.{spelt}
-
-abbrev pub place : Tree ℕ → ℕ
-place (Tree.word at w) = at
-place (Tree.pair at ts) = at
-
-abbrev pub token_place : Token → ℕ
-token_place (Token.word at w) = at
-token_place (Token.opening at) = at
-token_place Token.closing = 0
-
-abbrev pub first_place : List Token → ℕ
-first_place [] = 0
-first_place (t ∷ ts) = token_place t
+use Rattle.text.specs.Terms.{place}
 
 abbrev pub form_line : Tree ℕ → List ℕ
 form_line t = decimal (place t) ++ (32 ∷ (spelt false (flat t) ++ 10 ∷ []))

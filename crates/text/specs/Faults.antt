@@ -1,5 +1,6 @@
 -- The number, layer and place of each fault; want of memory has none.
-use Rattle.std.specs.Prelude.{Some, None, Option}
+use Rattle.std.specs.Prelude.{Some, None, Option, Ok, Err, Result}
+use Rattle.std.specs.declared.alloc.AllocError.{AllocError}
 use Rattle.definitions.specs.Refusal as meaning
 use Rattle.definitions.specs.Refusal.{text_layer, rules_layer, deal_layer, match_layer}
 use Rattle.definitions.specs.Text.{in_text}
@@ -17,8 +18,13 @@ layer Layer.Match = match_layer
 abbrev pub refusal : Refusal → meaning.Refusal
 refusal r = record { number = r.number; layer = layer r.layer; place = r.place }
 
+-- the refusal that an answer tells, if any
+abbrev pub told : Result Refusal AllocError → Option meaning.Refusal
+told (Ok r) = Some (refusal r)
+told (Err e) = None
+
 abbrev pub of_text : TextFault → Option meaning.Refusal
-of_text Memory = None
+of_text (Memory e) = None
 of_text TooLong = Some (in_text 1 32768)
 of_text (Odd at) = Some (in_text 2 at)
 of_text (Variable at) = Some (in_text 3 at)

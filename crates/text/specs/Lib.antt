@@ -1,4 +1,7 @@
 pub mod View
+pub mod Spelt
+pub mod Terms
+pub mod Same
 pub mod Faults
 pub mod Nesting
 pub mod Machine

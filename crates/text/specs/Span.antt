@@ -1,9 +1,11 @@
 -- How far a term goes in a list of tokens.
 --     span d      the tokens until d brackets more are closed than opened
+--     balanced d  each closing bracket closes one, where d are open before, and none is left open
 --     Spans       at the tokens of a term, whatever follows, it is their number
-use Rattle.std.specs.Prelude.{◌≡◌, ℕ, suc, ◌-◌, cond, List, [], ◌∷◌, ◌++◌, length, ◌==◌}
+use Rattle.std.specs.Prelude.{◌≡◌, ℕ, suc, ◌-◌, Bool, not, ◌&&◌, cond, List, [], ◌∷◌, ◌++◌, length, ◌==◌}
 use Rattle.definitions.specs.Term.{Tree}
 use Rattle.definitions.specs.Text.{Token, flat}
+use Rattle.text.specs.Spelt.{closes}
 
 -- the brackets open after a token
 abbrev pub opened : ℕ → Token → ℕ
@@ -14,6 +16,10 @@ opened d Token.closing = d - 1
 abbrev pub span : ℕ → List Token → ℕ
 span d [] = 0
 span d (t ∷ ts) = suc (cond (opened d t == 0) 0 (span (opened d t) ts))
+
+abbrev pub balanced : ℕ → List Token → Bool
+balanced d [] = d == 0
+balanced d (t ∷ ts) = not (closes t && d == 0) && balanced (opened d t) ts
 
 abbrev pub Spans : Type 0
 Spans = (t : Tree ℕ) (rest : List Token) → span 0 (flat t ++ rest) ≡ length (flat t)

@@ -1,16 +1,16 @@
 // Why a text is refused. specs/Faults.antt gives each case its number, layer and place.
-ghost use Rattle.std.specs.Prelude.{◌≡◌};
-ghost use Rattle.std.specs.Option.{option_map};
+ghost use Rattle.std.specs.Prelude.{◌≡◌, alloc_error};
 ghost use Rattle.text.specs.declared.fault.TextFault.TheVariants.{Memory};
-ghost use Rattle.text.specs.Faults.{of_text, refusal};
+ghost use Rattle.text.specs.Faults.{of_text, told};
 
 use crate::refusal::{Layer, Refusal};
-use std::alloc::AllocFailed;
+use std::alloc::{AllocError, AllocFailed};
+use std::error::Error;
 use std::fmt;
 
 #[derive(Clone, Copy, Debug, PartialEq)]
 pub enum TextFault {
-    Memory,
+    Memory(AllocError),
     TooLong,
     Odd { at: usize },
     Variable { at: usize },
@@ -21,20 +21,20 @@ pub enum TextFault {
 }
 
 impl<T: Drop> From<AllocFailed<T>> for TextFault {
-    ghost from_gives = { λ _ f. f ≡ Memory };
+    ghost from_gives = { λ _ f. f ≡ Memory alloc_error };
 
-    fn from(_r: AllocFailed<T>) -> TextFault {
-        TextFault::Memory
+    fn from(failed: AllocFailed<T>) -> TextFault {
+        TextFault::Memory(AllocError::from(failed))
     }
 }
 
 impl TextFault {
-    // Nothing at want of memory, which has no number.
-    pub fn refusal(self) -> Option<Refusal>
-        ensures { option_map refusal result ≡ of_text self }
+    // What is refused, or want of memory, which has no number.
+    pub fn refusal(self) -> Result<Refusal, AllocError>
+        ensures { told result ≡ of_text self }
     {
         let (number, place) = match self {
-            TextFault::Memory => return None,
+            TextFault::Memory(e) => return Err(e),
             TextFault::TooLong => (1, 32768),
             TextFault::Odd { at } => (2, at),
             TextFault::Variable { at } => (3, at),
@@ -43,7 +43,7 @@ impl TextFault {
             TextFault::Unclosed { at } => (4, at),
             TextFault::TooDeep { at } => (5, at),
         };
-        Some(Refusal {
+        Ok(Refusal {
             number,
             layer: Layer::Text,
             place,
@@ -55,7 +55,7 @@ impl TextFault {
 impl fmt::Display for TextFault {
     fn fmt<W: fmt::Write>(&self, f: &mut fmt::Formatter<W>) -> fmt::Result {
         let why = match self {
-            TextFault::Memory => return f.write_str("there is not enough memory"),
+            TextFault::Memory(_) => return f.write_str("there is not enough memory"),
             TextFault::TooLong => "the text has more than 32768 bytes",
             TextFault::Odd { at: _ } => "this byte may stand in a comment only",
             TextFault::Variable { at: _ } => "a ground text has no variables",
@@ -65,12 +65,14 @@ impl fmt::Display for TextFault {
             TextFault::TooDeep { at: _ } => "more than eight brackets are open",
         };
         match self.refusal() {
-            Some(r) => {
+            Ok(r) => {
                 let number = r.number;
                 let place = r.place;
                 write!(f, "{number} at byte {place} of the text: {why}")
             }
-            None => f.write_str(why),
+            Err(_) => f.write_str(why),
         }
     }
 }
+
+impl Error for TextFault {}

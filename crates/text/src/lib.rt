@@ -9,6 +9,7 @@ mod reader;
 mod refusal;
 mod sort;
 mod span;
+mod term;
 mod token;
 
 pub use fault::TextFault;
@@ -16,4 +17,5 @@ pub use forms::Forms;
 pub use output::write;
 pub use refusal::{Layer, Refusal};
 pub use span::term_len;
+pub use term::{Parts, Term, Terms};
 pub use token::Token;

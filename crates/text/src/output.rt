@@ -1,20 +1,11 @@
 // Tokens written out as bytes.
 ghost use Rattle.std.specs.Prelude.{◌≡◌, false, map};
-ghost use Rattle.definitions.specs.Writing.{is_word, spaced, spelt, Reread};
+ghost use Rattle.definitions.specs.Writing.{spaced, spelt, Reread};
 ghost use Rattle.text.specs.View.{token};
 ghost use Rattle.text.specs.Output.{Appended, Grown};
 
 use crate::token::Token;
 use std::alloc::AllocError;
-
-fn ends_word(t: Token) -> bool
-    ensures { result ≡ is_word (token t.entry) }
-{
-    match t {
-        Token::Word { at: _, spelling: _ } => true,
-        _ => false,
-    }
-}
 
 // One token, after a word or not.
 fn put(t: Token, after: bool, out: &mut Vec<u8>) -> Result<(), AllocError>
@@ -39,7 +30,7 @@ fn put_all(tokens: &[Token], out: &mut Vec<u8>) -> Result<(), AllocError>
     let mut after = false;
     for t in tokens {
         put(*t, after, out)?;
-        after = ends_word(*t);
+        after = t.is_word();
     }
     Ok(())
 }

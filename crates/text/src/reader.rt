@@ -1,15 +1,15 @@
 // The reader: a machine in place, whose state and next byte together decide the step.
-ghost use Rattle.std.specs.Prelude.{◌≡◌, ℕ, ◌+◌, ◌<◌, List, length, slice_index};
-ghost use Rattle.definitions.specs.Text.{Levels, outer};
+ghost use Rattle.std.specs.Prelude.{◌≡◌, ◌+◌, ◌<◌, length, slice_index};
+ghost use Rattle.definitions.specs.Text.{outer};
 ghost use Rattle.definitions.specs.Term.{none};
 ghost use Rattle.definitions.specs.Reading.{Mode, mark, step, settle, ended, reading};
-ghost use Rattle.text.specs.Nesting.{Nests, Ended};
+ghost use Rattle.text.specs.Nesting.{nesting, Ended};
 ghost use Rattle.text.specs.View.{sorted};
-ghost use Rattle.text.specs.Machine.{Shows, Started, Stepped};
+ghost use Rattle.text.specs.Machine.{mode, Started, Stepped};
 
 use crate::fault::TextFault;
 use crate::nest::Nest;
-use crate::sort::{Sort, in_words, sort_of};
+use crate::sort::Sort;
 use std::alloc::Global;
 
 #[derive(Clone, Copy)]
@@ -21,24 +21,29 @@ pub enum State {
 
 #[derive(Drop)]
 pub struct Reader<'a> {
+    pub text: &'a [u8],
     pub nest: Nest<'a>,
     pub state: State,
 }
 
 impl<'a> Reader<'a> {
-    pub(crate) fn new(heap: Global) -> Reader<'a>
-        ensures { (text : List ℕ) → Shows result 0 text Mode.between (outer none) }
+    pub(crate) fn new(heap: Global, text: &'a [u8]) -> Reader<'a>
+        ensures text { result.text.now ≡ text.now }
+        ensures state { result.state ≡ State.Between }
+        ensures nest { nesting result.nest ≡ outer none }
     {
         Reader {
+            text,
             nest: Nest::new(heap),
             state: State::Between,
         }
     }
 
     // A byte that stands in no word and no comment.
-    fn mark(&mut self, text: &[u8], at: usize, sort: Sort) -> Result<(), TextFault>
-        requires { at < length text.now }
-        ensures { (ls : Levels) → Nests self.old.nest ls → Stepped result self.new (at + 1) text.now (mark at (slice_index text.now at) ls (sorted sort)) }
+    fn mark(&mut self, at: usize, sort: Sort) -> Result<(), TextFault>
+        requires { at < length self.old.text.now }
+        ensures value { Stepped result self.new (at + 1) (mark at (slice_index self.old.text.now at) (nesting self.old.nest) (sorted sort)) }
+        ensures same { self.new.text.now ≡ self.old.text.now }
     {
         match sort {
             Sort::Word => self.state = State::Word { start: at },
@@ -59,45 +64,48 @@ impl<'a> Reader<'a> {
     }
 
     // The byte at `at`.
-    fn step(&mut self, text: &'a [u8], at: usize) -> Result<(), TextFault>
-        requires within { at < length text.now }
+    #[tactic(auto, using(crate::proofs::Machine::step_goes_on))]
+    fn step(&mut self, at: usize, byte: u8) -> Result<(), TextFault>
+        requires within { at < length self.old.text.now }
+        requires here { byte ≡ slice_index self.old.text.now at }
         requires started { Started self.old.state at }
-        ensures { (m : Mode) (ls : Levels) → Shows self.old at text.now m ls → Stepped result self.new (at + 1) text.now (step at m ls (slice_index text.now at)) }
+        ensures value { Stepped result self.new (at + 1) (step at (mode self.old.state at self.old.text.now) (nesting self.old.nest) byte) }
+        ensures same { self.new.text.now ≡ self.old.text.now }
     {
-        let byte = text[at];
-        match (self.state, sort_of(byte)) {
+        match (self.state, Sort::from(byte)) {
             (State::Comment, _) if byte == b'\n' => {
                 self.state = State::Between;
                 Ok(())
             }
             (State::Comment, _) => Ok(()),
-            (State::Word { start: _ }, sort) if in_words(sort) => Ok(()),
+            (State::Word { start: _ }, sort) if sort.in_words() => Ok(()),
             (State::Word { start }, sort) => {
-                self.nest.add_word(start, &text[start..at])?;
-                self.mark(text, at, sort)
+                self.nest.add_word(start, &self.text[start..at])?;
+                self.mark(at, sort)
             }
-            (State::Between, sort) => self.mark(text, at, sort),
+            (State::Between, sort) => self.mark(at, sort),
         }
     }
 
     // The end of the text, with the word in progress.
-    fn end(&mut self, text: &'a [u8]) -> Result<(), TextFault>
-        requires { Started self.old.state (length text.now) }
-        ensures { (m : Mode) (ls : Levels) → Shows self.old (length text.now) text.now m ls → Ended result self.new.nest.tokens.items (ended (settle m ls)) }
+    fn end(&mut self) -> Result<(), TextFault>
+        requires { Started self.old.state (length self.old.text.now) }
+        ensures { Ended result self.new.nest.tokens.items (ended (settle (mode self.old.state (length self.old.text.now) self.old.text.now) (nesting self.old.nest))) }
     {
         if let State::Word { start } = self.state {
-            self.nest.add_word(start, &text[start..text.len()])?;
+            self.nest.add_word(start, &self.text[start..])?;
         }
         self.nest.finish()
     }
 
-    pub(crate) fn run(&mut self, text: &'a [u8]) -> Result<(), TextFault>
-        requires { (t : List ℕ) → Shows self.old 0 t Mode.between (outer none) }
-        ensures { Ended result self.new.nest.tokens.items (reading 0 Mode.between (outer none) text.now) }
+    pub(crate) fn run(&mut self) -> Result<(), TextFault>
+        requires state { self.old.state ≡ State.Between }
+        requires nest { nesting self.old.nest ≡ outer none }
+        ensures { Ended result self.new.nest.tokens.items (reading 0 Mode.between (outer none) self.old.text.now) }
     {
-        for at in 0..text.len() {
-            self.step(text, at)?;
+        for (at, byte) in self.text.iter().enumerate() {
+            self.step(at, *byte)?;
         }
-        self.end(text)
+        self.end()
     }
 }

@@ -1,7 +1,7 @@
 // How far a term goes.
 ghost use Rattle.std.specs.Prelude.{◌≡◌, ◌+◌, ◌^◌, ◌<◌, ◌≤◌, map, length};
 ghost use Rattle.text.specs.View.{token};
-ghost use Rattle.text.specs.Span.{opened, span, Spans};
+ghost use Rattle.text.specs.Span.{opened, span, balanced, Spans};
 
 use crate::token::Token;
 
@@ -18,6 +18,7 @@ fn open_after(depth: usize, t: Token) -> usize
 }
 
 // The number of tokens of the first term: to the bracket that closes the first token, or one where it opens none.
+#[tactic(auto, using(crate::proofs::Spans::spans, crate::proofs::Spans::span_more, crate::proofs::Spans::span_here, crate::proofs::Spans::opened_under))]
 pub fn term_len(tokens: &[Token]) -> usize
     ensures value { result ≡ span 0 (map token tokens.now) }
     ensures within { result ≤ length tokens.now }
@@ -32,4 +33,18 @@ pub fn term_len(tokens: &[Token]) -> usize
         }
     }
     tokens.len()
+}
+
+// Each closing bracket closes one, and none is left open.
+pub(crate) fn is_balanced(tokens: &[Token]) -> bool
+    ensures { result ≡ balanced 0 (map token tokens.now) }
+{
+    let mut depth = 0usize;
+    for t in tokens {
+        if t.closes() && depth == 0 {
+            return false;
+        }
+        depth = open_after(depth, *t);
+    }
+    depth == 0
 }

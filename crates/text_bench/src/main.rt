@@ -1,7 +1,7 @@
 // Times the reading of a text: the words are FILE and TIMES, and what is printed is the nanoseconds of all TIMES readings.
 #![tactic(auto)]
 
-use anyhow::anyhow;
+use anyhow::bail;
 use std::time::Instant;
 use std::{env, fs};
 use text::Forms;
@@ -17,7 +17,7 @@ fn run(rt: &HostRuntime) -> anyhow::Result<()> {
     let start = Instant::now(rt)?;
     for _ in 0..times {
         if forms.read(rt.alloc(), text.as_slice()).is_err() {
-            return Err(anyhow!("the text is refused"));
+            bail!("the text is refused");
         }
     }
     let nanoseconds = start.elapsed(rt)?.as_nanos();

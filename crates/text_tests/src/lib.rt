@@ -5,17 +5,17 @@
 mod tests {
     use std::alloc::{AllocError, Global};
     use std::test::Fail;
-    use text::{Forms, TextFault, Token, term_len, write};
+    use text::{Forms, Parts, Term, Terms, TextFault, Token, term_len, write};
 
-    // The number and place of a text's refusal, or nothing where it is read; want of memory is number 0.
-    fn refused(heap: Global, text: &[u8]) -> Option<(u8, usize)> {
+    // The number and place of a text's refusal, or nothing where it is read.
+    fn refused(heap: Global, text: &[u8]) -> Result<Option<(u8, usize)>, AllocError> {
         let mut forms = Forms::new(heap);
         match forms.read(heap, text) {
-            Ok(()) => None,
-            Err(fault) => match fault.refusal() {
-                Some(refusal) => Some((refusal.number, refusal.place)),
-                None => Some((0, 0)),
-            },
+            Ok(()) => Ok(None),
+            Err(fault) => {
+                let refusal = fault.refusal()?;
+                Ok(Some((refusal.number, refusal.place)))
+            }
         }
     }
 
@@ -23,44 +23,37 @@ mod tests {
     fn spaces_after(heap: Global, first: u8, len: usize) -> Result<Vec<u8>, AllocError> {
         let mut text = Vec::new(heap);
         text.push(first)?;
-        for _ in 1..len {
-            text.push(b' ')?;
-        }
+        text.resize(len, b' ')?;
         Ok(text)
-    }
-
-    // The same token, places aside.
-    fn alike(a: Token, b: Token) -> bool {
-        match (a, b) {
-            (Token::Open { at: _ }, Token::Open { at: _ }) => true,
-            (Token::Close, Token::Close) => true,
-            (Token::Word { at: _, spelling: x }, Token::Word { at: _, spelling: y }) => x == y,
-            _ => false,
-        }
-    }
-
-    fn all_alike(a: &[Token], b: &[Token]) -> bool {
-        for (x, y) in a.iter().zip(b.iter()) {
-            if !alike(*x, *y) {
-                return false;
-            }
-        }
-        a.len() == b.len()
-    }
-
-    // Where a token stands; a closing bracket has no place.
-    fn place(t: Token) -> Option<usize> {
-        match t {
-            Token::Open { at } => Some(at),
-            Token::Close => None,
-            Token::Word { at, spelling: _ } => Some(at),
-        }
     }
 
     // The text reads as these tokens, places aside.
     fn reads_as(heap: Global, text: &[u8], tokens: &[Token]) -> bool {
         let mut forms = Forms::new(heap);
-        forms.read(heap, text).is_ok() && all_alike(forms.tokens(), tokens)
+        let read = forms.read(heap, text).is_ok();
+        let found = forms.tokens();
+        read && found.len() == tokens.len() && found.iter().zip(tokens).all(|(t, u)| t.is_like(*u))
+    }
+
+    // Where terms start.
+    fn places(heap: Global, terms: Terms) -> Result<Vec<usize>, AllocError> {
+        terms.map(|t| t.place()).collect(heap)
+    }
+
+    // How a term is spelt that is a word.
+    fn word(term: Term) -> Option<&[u8]> {
+        match term.parts() {
+            Parts::Word(spelling) => Some(spelling),
+            Parts::Pair(_) => None,
+        }
+    }
+
+    // The terms in a bracket pair.
+    fn inside(term: Term) -> Option<Terms> {
+        match term.parts() {
+            Parts::Word(_) => None,
+            Parts::Pair(terms) => Some(terms),
+        }
     }
 
     // The forms of a text are written as these bytes, and the bytes read as the same tokens.
@@ -73,7 +66,7 @@ mod tests {
     }
 
     #[test]
-    fn refusals(rt: HostRuntime) {
+    fn refusals(rt: HostRuntime) -> Result<(), Fail> {
         let cases: [(&[u8], u8, usize); 34] = [
             // odd bytes
             (b"\0", 2, 0),
@@ -118,8 +111,9 @@ mod tests {
         ];
         for (i, case) in cases.iter().enumerate() {
             let (text, number, at) = *case;
-            assert_eq!(rt; refused(rt.alloc(), text), Some((number, at)), "{}", i);
+            assert_eq!(rt; refused(rt.alloc(), text)?, Some((number, at)), "{}", i);
         }
+        Ok(())
     }
 
     #[test]
@@ -174,11 +168,16 @@ mod tests {
         for (i, case) in cases.iter().enumerate() {
             let (first, len, number, at) = *case;
             let text = spaces_after(heap, first, len)?;
-            assert_eq!(rt; refused(heap, text.as_slice()), Some((number, at)), "{}", i);
+            assert_eq!(rt;
+                refused(heap, text.as_slice())?,
+                Some((number, at)),
+                "{}",
+                i
+            );
         }
         let mut last_odd = spaces_after(heap, b' ', 32767)?;
         last_odd.push(127)?;
-        assert_eq!(rt; refused(heap, last_odd.as_slice()), Some((2, 32767)));
+        assert_eq!(rt; refused(heap, last_odd.as_slice())?, Some((2, 32767)));
         Ok(())
     }
 
@@ -224,11 +223,100 @@ mod tests {
                 spelling: b"e",
             },
         ];
-        assert_eq!(rt; forms.tokens().len(), wanted.len());
-        for (i, (found, token)) in forms.tokens().iter().zip(wanted.iter()).enumerate() {
-            assert!(rt; alike(*found, *token), "{}", i);
-            assert_eq!(rt; place(*found), place(*token), "{}", i);
+        assert_eq!(rt; forms.tokens(), wanted.as_slice());
+    }
+
+    #[test]
+    fn forms_and_their_places(rt: HostRuntime) -> Result<(), Fail> {
+        let heap = rt.alloc();
+        let mut forms = Forms::new(heap);
+        assert_eq!(rt; forms.terms().count(), 0);
+        let cases: [(&[u8], &[usize]); 4] = [
+            (b" ;a", &[]),
+            (b" a", &[1]),
+            (b"(a b)", &[0]),
+            (b"a (b c) ;x\n((d))e", &[0, 2, 11, 16]),
+        ];
+        for (i, case) in cases.iter().enumerate() {
+            let (text, wanted) = *case;
+            assert!(rt; forms.read(heap, text).is_ok(), "{}", i);
+            assert_eq!(rt; places(heap, forms.terms())?.as_slice(), wanted, "{}", i);
         }
+        assert!(rt; forms.read(heap, b"a b)").is_err());
+        assert_eq!(rt; forms.terms().count(), 0);
+        Ok(())
+    }
+
+    #[test]
+    fn parts_of_terms(rt: HostRuntime) -> Result<(), Fail> {
+        let heap = rt.alloc();
+        let mut forms = Forms::new(heap);
+        assert!(rt; forms.read(heap, b"ab (c (d e) f)").is_ok());
+        let mut terms = forms.terms();
+        let first = terms.next().ok_or("a word")?;
+        assert_eq!(rt; word(first), Some(b"ab".as_slice()));
+        assert!(rt; inside(first).is_none());
+        let pair = terms.next().ok_or("a pair")?;
+        assert!(rt; word(pair).is_none());
+        let parts = inside(pair).ok_or("what is in the pair")?;
+        assert_eq!(rt; places(heap, parts)?.as_slice(), [4, 6, 12].as_slice());
+        assert!(rt; terms.next().is_none());
+        Ok(())
+    }
+
+    #[test]
+    fn equal_terms(rt: HostRuntime) {
+        let cases: [(&[u8], bool); 8] = [
+            (b"a a", true),
+            (b"(a(b))( a ;x\n (b ))", true),
+            (b"a b", false),
+            (b"ab a", false),
+            (b"a (a)", false),
+            (b"(a b) (a c)", false),
+            (b"(a b) (a b c)", false),
+            (b"((a) b) (a (b))", false),
+        ];
+        let mut forms = Forms::new(rt.alloc());
+        for (i, case) in cases.iter().enumerate() {
+            let (text, same) = *case;
+            assert!(rt; forms.read(rt.alloc(), text).is_ok(), "{}", i);
+            let mut terms = forms.terms();
+            let (first, second) = (terms.next(), terms.next());
+            assert!(rt; second.is_some() && terms.next().is_none(), "{}", i);
+            assert_eq!(rt; first == second, same, "{}", i);
+        }
+    }
+
+    #[test]
+    fn terms_of_tokens(rt: HostRuntime) -> Result<(), Fail> {
+        let heap = rt.alloc();
+        let open = Token::Open { at: 0 };
+        let word = Token::Word {
+            at: 1,
+            spelling: b"a",
+        };
+        let close = Token::Close;
+        let balanced: [(&[Token], &[usize]); 4] = [
+            (&[], &[]),
+            (&[word, word], &[1, 1]),
+            (&[word, open, word, close], &[1, 0]),
+            (&[open, close], &[0]),
+        ];
+        for (i, case) in balanced.iter().enumerate() {
+            let (tokens, starts) = *case;
+            let terms = Terms::of(tokens).ok_or("terms")?;
+            assert_eq!(rt; terms.is_empty(), starts.is_empty(), "{}", i);
+            assert_eq!(rt; places(heap, terms)?.as_slice(), starts, "{}", i);
+        }
+        let unbalanced: [&[Token]; 4] = [&[close], &[open], &[open, close, close], &[close, open]];
+        for (i, tokens) in unbalanced.iter().enumerate() {
+            assert!(rt; Terms::of(*tokens).is_none(), "{}", i);
+        }
+        let mut forms = Forms::new(heap);
+        assert!(rt; forms.read(heap, b"a (b (c)) d").is_ok());
+        let terms = Terms::of(forms.tokens()).ok_or("terms")?;
+        assert_eq!(rt; places(heap, terms)?.as_slice(), [0, 2, 10].as_slice());
+        Ok(())
     }
 
     #[test]

@@ -1,7 +1,7 @@
 // Prints the forms of a rules file, one line each with the place where it starts, or what is wrong with it and where.
 #![tactic(auto)]
 
-use anyhow::anyhow;
+use anyhow::ensure;
 use report::report;
 use std::io::Write;
 use std::{env, fs};
@@ -12,9 +12,7 @@ fn run(rt: &HostRuntime) -> anyhow::Result<()> {
         Some(name) => name,
         None => String::from_str(rt.alloc(), "game.kif")?,
     };
-    if words.next().is_some() {
-        return Err(anyhow!("usage: validate [FILE]"));
-    }
+    ensure!(words.next().is_none(), "usage: validate [FILE]");
     let text = fs::read(rt, file.as_str())?;
     let mut out = Vec::new(rt.alloc());
     report(rt.alloc(), text.as_slice(), &mut out)?;

@@ -1,14 +1,12 @@
-use Rattle.std.proofs.Common.{◌≡◌, ◌-◌, ◌≤◌, ◌++◌, map, length, drop, vec_items}
-use Rattle.definitions.specs.Term.{Placed}
-use Rattle.definitions.specs.Text.{flats}
-use Rattle.text.specs.View.{token}
-use Rattle.report.specs.Lines.{form_lines}
+use Rattle.std.proofs.Common.{◌≡◌, ◌++◌}
+use Rattle.definitions.specs.Lists.{joined}
+use Rattle.text.specs.Terms.{left, trees}
+use Rattle.report.specs.Lines.{form_line, form_lines}
 use Rattle.report.proofs.put_forms.Given as goal
 
-abbrev pub invariant-loop-from : goal.invariant-loop-from
-invariant-loop-from l =
-    (l.from ≤ length l.tokens)
-    × ((ts : Placed) → map token l.tokens ≡ flats ts → (us : Placed) × (map token (drop l.from l.tokens) ≡ flats us) × (vec_items l.out ++ form_lines us ≡ vec_items l.initial.out ++ form_lines ts))
-
-abbrev pub decreases-loop-from : goal.decreases-loop-from
-decreases-loop-from l = length l.initial.tokens - l.from
+-- the lines of the forms that are left are still to come
+abbrev pub invariant-loop-form : goal.invariant-loop-form
+invariant-loop-form l =
+    (goal.iterator-loop-form).can_next l.form-iterator
+    × (goal.iterator-loop-form).is_finite l.form-iterator
+    × (l.out.items ++ joined form_line (left l.form-iterator) ≡ l.initial.out.items ++ form_lines (trees l.fn.forms))

@@ -1,10 +1,25 @@
-use Rattle.std.proofs.Common.{refl}
-use Rattle.definitions.specs.Form as form
-use Rattle.forms.proofs.Viewed.{one_made, two_made}
+use Rattle.std.proofs.Common.{◌≡◌, ◌&&◌, sym, ap, ◌∙◌, rules}
+use Rattle.std.specs.Option.{option_map}
+use Rattle.definitions.specs.Form.{Atom, is_term, plain, when}
+use Rattle.forms.specs.Atoms.{atom_view}
+use Rattle.forms.specs.View.{term_view, terms_view}
+use Rattle.forms.proofs.Shaped.{knows_one, knows_two, when_made}
 use Rattle.forms.proofs.atom.a_knows.Goals as goal
+use Rattle.forms.proofs.atom.a_knows.Goals.{then-is_term, else-is_term}
 
-pub returns-then-is_plain : goal.returns-then-is_plain
-returns-then-is_plain c = λ ts h. one_made form.a_knows form.plain form.Atom.common (λ t. refl) c.args.args c.in-One.p ts c.in-One.is c.if-is_plain.ensures h
+pub returns-in-Some : goal.returns-in-Some
+returns-in-Some c =
+    ap (option_map atom_view) c.then_some.ensures
+    ∙ when_made atom_view c.is_plain.result _
+    ∙ ap (λ b. when b (Atom.common (term_view c.in-Some.fact))) c.is_plain.ensures
+    ∙ sym (knows_one (terms_view c.args.args) _ c.in-Some.ensures)
 
-pub returns-then-is_plain-2 : goal.returns-then-is_plain-2
-returns-then-is_plain-2 c = λ ts h. two_made form.a_knows form.is_term form.plain form.Atom.knows (λ t u. refl) c.args.args c.in-Two.r c.in-Two.p ts c.in-Two.is c.if-is_term_at.ensures c.if-is_plain-2.ensures h
+pub returns : goal.returns
+returns c =
+    let role = term_view c.in_ok-role.role in
+    let fact = term_view c.in_ok-role.fact in
+    let known : c.if-is_term.then_some ≡ (is_term role && plain fact) = elim c.if-is_term.branch [ then-is_term w ↦ search rules | else-is_term w ↦ search rules ] in
+    ap (option_map atom_view) c.then_some-2.ensures
+    ∙ when_made atom_view c.if-is_term.then_some _
+    ∙ ap (λ b. when b (Atom.knows role fact)) known
+    ∙ sym (knows_two (terms_view c.args.args) role fact c.in_ok-role.ensures)

@@ -1,33 +1,17 @@
-use Rattle.std.proofs.Common.{Some, refl, arith}
+use Rattle.std.proofs.Common.{map, ap, rules}
+use Rattle.std.proofs.lemmas.Bool.{false≢true}
 use Rattle.std.proofs.lemmas.Result.{err_from_is_err_and}
-use Rattle.definitions.specs.Form as form
-use Rattle.definitions.specs.Term.{◌&◌}
+use Rattle.definitions.specs.Term.{bare}
 use Rattle.forms.specs.Atoms.{atom_view}
-use Rattle.forms.proofs.Formed.{no_parts, no_head, whole_rule, rule_stops}
-use Rattle.forms.proofs.Taken.{two_more}
+use Rattle.forms.specs.View.{term_view, terms_view}
+use Rattle.forms.proofs.Formed.{rule_stops, rule_whole}
 use Rattle.forms.proofs.form.rule_of.Goals as goal
 
-pub returns-then-first-terms : goal.returns-then-first-terms
-returns-then-first-terms c = λ ts is. no_parts c.term_len-first.ensures.law c.args.terms.now c.term_len-first.result ts c.term_len-first.ensures.value c.if-first-terms.true is
+pub returns-in_err-put_all : goal.returns-in_err-put_all
+returns-in_err-put_all c =
+    let p = err_from_is_err_and c.from_residual-in_err-put_all.result c.from_residual-in_err-put_all.ensures.1 in
+    rw (p.1, p.2) (rule_stops (terms_view c.args.terms) (term_view c.in-Some.first) c.next.new.self (atom_view c.in_ok-head.head) _ _ _ (ap (map bare) c.in-Some.ensures.steps) (λ e. absurd (false≢true (c.if-is_empty.ensures.1 e))) (search rules) c.in_err-put_all.ensures)
 
-pub returns-in-None : goal.returns-in-None
-returns-in-None c = λ ts is.
-    let h = two_more c.term_len-first.ensures.law c.args.terms.now c.term_len-first.result ts c.term_len-first.ensures.value (omega (arith, c.term_len-first.ensures.within, c.if-first-terms.false)) is in
-    no_head c.args.terms.now c.term_len-first.result ts h (c.in-None.ensures h.one h.here)
-
-pub returns-in_err-body-in-Some : goal.returns-in_err-body-in-Some
-returns-in_err-body-in-Some c =
-    let p = err_from_is_err_and c.from_residual.result c.from_residual.ensures.1 in
-    rw (p.1, p.2)
-    (λ ts is.
-    let h = two_more c.term_len-first.ensures.law c.args.terms.now c.term_len-first.result ts c.term_len-first.ensures.value (omega (arith, c.term_len-first.ensures.within, c.if-first-terms.false)) is in
-    rule_stops c.args.terms.now c.term_len-first.result ts h (atom_view c.in-Some.head) c.in_err-body-in-Some.field-0.0 (c.in-Some.ensures h.one h.here) (c.in_err-body-in-Some.ensures (h.two & h.others) h.rest))
-
-pub returns-in_ok-body-in-Some : goal.returns-in_ok-body-in-Some
-returns-in_ok-body-in-Some c = λ ts is.
-    let h = two_more c.term_len-first.ensures.law c.args.terms.now c.term_len-first.result ts c.term_len-first.ensures.value (omega (arith, c.term_len-first.ensures.within, c.if-first-terms.false)) is in
-    let (ps, all, are) = c.in_ok-body-in-Some.ensures (h.two & h.others) h.rest in (
-      form.Form.rules (record { head = atom_view c.in-Some.head; parts = ps }),
-      whole_rule c.args.terms.now c.term_len-first.result ts h (atom_view c.in-Some.head) (Some ps) (c.in-Some.ensures h.one h.here) all,
-      (record { head = atom_view c.in-Some.head; parts = ps }, refl, record { head = refl; parts = are }),
-    )
+pub returns : goal.returns
+returns c =
+    rule_whole (terms_view c.args.terms) (term_view c.in-Some.first) c.next.new.self (atom_view c.in_ok-head.head) _ _ (ap (map bare) c.in-Some.ensures.steps) (λ e. absurd (false≢true (c.if-is_empty.ensures.1 e))) (search rules) c.new-body.ensures c.in_ok-put_all.ensures

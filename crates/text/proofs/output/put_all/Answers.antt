@@ -13,7 +13,7 @@ returns-in_err-put c =
 pub loop-t-preserved : goal.loop-t-preserved
 loop-t-preserved c =
     let i = c.loop-t.invariant in
-    spelt_more c.args.tokens.now c.loop-t.t-index _ c.loop-t.after c.ends_word-after.result (vec_items c.args.out.now) (vec_items c.loop-t.out) (vec_items c.put.new.out) i.0 c.loop-t-test.true i.1 i.2 c.in_ok-put.ensures c.ends_word-after.ensures
+    spelt_more c.args.tokens.now c.loop-t.t-index _ c.loop-t.after c.is_word-after.result (vec_items c.args.out.now) (vec_items c.loop-t.out) (vec_items c.put.new.out) i.0 c.loop-t-test.true i.1 i.2 c.in_ok-put.ensures c.is_word-after.ensures
 
 pub returns : goal.returns
 returns c =

@@ -1,8 +1,11 @@
-use Rattle.std.proofs.Common.{◌∙◌}
-use Rattle.forms.proofs.Bodied.{parts_more}
+use Rattle.std.proofs.Common.{map, ap, ◌∙◌}
+use Rattle.std.proofs.lemmas.List.{map_push}
+use Rattle.forms.specs.Bodies.{part_view, body_view}
+use Rattle.forms.specs.Literals.{literal_view}
+use Rattle.forms.proofs.Putting.{whole_added}
 use Rattle.forms.proofs.body.Body.put.Goals as goal
 
 pub returns : goal.returns
-returns c = λ ps u h is.
-    let (p, made, added) = c.in_ok-put_part.ensures u is in
-    (p, made, parts_more c.args.self.now (record { literals = c.put_part.new.literals; ends = c.push.new.self }) ps p c.len.result h added (c.len.ensures ∙ c.put_part.new.literals.ok.0) c.in_ok-push.ensures.items)
+returns c =
+    whole_added (body_view c.args.self.now) _ _ _ _ (ap (map literal_view) c.new-part.ensures.items) c.in_ok-put_part.ensures
+    (ap (map part_view) c.in_ok-push.ensures.items ∙ map_push part_view c.args.self.now.parts.items c.put_part.new.literals)

@@ -1,30 +1,17 @@
-use Rattle.std.proofs.Common.{◌≡◌, leb, length, IfSome, sym, ◌∙◌, subst}
-use Rattle.std.proofs.lemmas.Result.{err_from_is_err_and}
-use Rattle.std.proofs.lemmas.Bool.{cond-false, not-true, not-false, leb-true}
-use Rattle.definitions.specs.Refusal.{refused}
-use Rattle.definitions.proofs.Decided.{decided, short_verdict}
-use Rattle.text.specs.Faults.{of_text}
+use Rattle.std.proofs.Common.{sym, ap, ◌∙◌}
+use Rattle.std.proofs.lemmas.Bool.{cond-true, not-false}
+use Rattle.definitions.specs.Refusal.{accepted}
+use Rattle.definitions.specs.Term.{none}
+use Rattle.definitions.specs.Text.{outer}
+use Rattle.definitions.specs.Reading.{Mode, reading}
+use Rattle.text.specs.Spelt.{terms}
+use Rattle.text.proofs.Spelt.{are_terms, terms_flats}
 use Rattle.text.proofs.forms.Forms.read.Goals as goal
 
-pub returns-then-too_long : goal.returns-then-too_long
-returns-then-too_long c = record {
-  value = (c.clear.ensures.items, cond-false _ _ _ (not-true (leb (length c.args.text.now) 32768) (sym c.if-too_long.ensures)));
-  law = decided;
-}
+pub invariant_of-self-2 : goal.invariant_of-self-2
+invariant_of-self-2 c = record { whole = are_terms _ c.in_ok-run.ensures.0 c.in_ok-run.ensures.2 }
 
-pub returns-in_err-run : goal.returns-in_err-run
-returns-in_err-run c =
-    let p = err_from_is_err_and c.from_residual.result c.from_residual.ensures.1 in
-    let same = sym (short_verdict c.args.text.now (leb-true (length c.args.text.now) 32768 (not-false (leb (length c.args.text.now) 32768) (sym c.if-too_long.ensures)))) in
-    record {
-      value = rw (p.1, p.2) (c.clear.ensures.items, subst (λ v. IfSome (of_text c.in_err-run.field-0.0) (λ r. v ≡ refused r)) same c.in_err-run.ensures);
-      law = decided;
-    }
-
-pub returns : goal.returns
-returns c =
-    let t = c.in_ok-run.ensures in
-    record {
-      value = (t.0, short_verdict c.args.text.now (leb-true (length c.args.text.now) 32768 (not-false (leb (length c.args.text.now) 32768) (sym c.if-too_long.ensures))) ∙ t.1, t.2);
-      law = decided;
-    }
+pub returns-clause-value : goal.returns-clause-value
+returns-clause-value c =
+    let done = c.in_ok-run.ensures in
+    cond-true _ _ _ (not-false _ (sym c.if-too_long.ensures)) ∙ ap (reading 0 Mode.between (outer none)) (sym c.new-reader.ensures.text) ∙ done.1 ∙ ap accepted (sym (ap terms done.2 ∙ terms_flats done.0))

@@ -1,15 +1,24 @@
-use Rattle.std.proofs.Common.{◌<◌, ◌≤◌, ltb, length, vec_len, sym, refl, ap, arith}
-use Rattle.std.proofs.lemmas.Bool.{cond-true, cond-false, lt-ltb, le-ltb, ltb-true, ltb-false, not-true, not-false}
+use Rattle.std.proofs.Common.{ltb, length, sym, ap, ◌∙◌, arith}
+use Rattle.std.proofs.lemmas.Bool.{cond-true, ltb-true, not-false}
 use Rattle.definitions.specs.Text.{open_brackets}
-use Rattle.text.proofs.Nesting.{nests_open, places_count}
+use Rattle.definitions.specs.Reading.{Mode, next}
+use Rattle.text.specs.Nesting.{nesting}
+use Rattle.text.proofs.Nesting.{levels_more, open_kept, places_count}
 use Rattle.text.proofs.nest.Nest.open_at.Goals as goal
 
-pub returns-then-is_full : goal.returns-then-is_full
-returns-then-is_full c = λ ls h.
-    let many : 8 ≤ open_brackets ls = omega (arith, ltb-false (vec_len c.args.self.now.opens) 8 (not-true (ltb (vec_len c.args.self.now.opens) 8) (sym c.if-is_full.ensures)), c.args.self.now.opens.ok.0, ap length h.opens, places_count ls) in
-    cond-false _ _ _ (le-ltb (open_brackets ls) 8 many)
+pub push-requires-2 : goal.push-requires-2
+push-requires-2 c =
+    let n = c.args.self.now in
+    let few = ltb-true (open_brackets (nesting n)) 8 (not-false (ltb (open_brackets (nesting n)) 8) (sym c.if-is_full.ensures)) in
+    (omega arith, omega (arith, few, ap length n.placed, places_count (nesting n)))
+
+pub invariant_of-self-2 : goal.invariant_of-self-2
+invariant_of-self-2 c =
+    let n = c.args.self.now in
+    let k = open_kept _ _ c.args.at _ _ (record { spelt = n.spelt; placed = n.placed }) c.in_ok-push.ensures.items c.push-2.ensures.items in
+    record { spelt = k.spelt; placed = k.placed }
 
 pub returns : goal.returns
-returns c = λ ls h.
-    let few : open_brackets ls < 8 = omega (arith, ltb-true (vec_len c.args.self.now.opens) 8 (not-false (ltb (vec_len c.args.self.now.opens) 8) (sym c.if-is_full.ensures)), c.args.self.now.opens.ok.0, ap length h.opens, places_count ls) in
-    (_, cond-true _ _ _ (lt-ltb (open_brackets ls) 8 few), nests_open _ _ ls c.args.at h c.in_ok-push.ensures.items c.in_ok-push-2.ensures.items refl)
+returns c =
+    cond-true _ _ _ (not-false (ltb (open_brackets (nesting c.args.self.now)) 8) (sym c.if-is_full.ensures))
+    ∙ ap (next Mode.between) (sym (levels_more _ _ _ c.in_ok-push.ensures.items))
