@@ -43,8 +43,8 @@ module _ (g : Game) where
   joint_once [] each = ((λ y i. elim i [ ]), tt)
   joint_once (xs ∷ lists) each =
       pairwise_joined (λ x y. x ≢ y) (λ m. map (λ js. m ∷ js) (joint g lists)) xs
-      (pairwise_like (λ x y. x ≢ y) _ xs (λ m n i j apart u v k l e. let r = map_in _ (joint g lists) k in let s = map_in _ (joint g lists) l in apart (cc)) (each xs here))
-      (λ m i. pairwise_map (λ x y. x ≢ y) (λ js. m ∷ js) (joint g lists) (pairwise_like (λ x y. x ≢ y) _ (joint g lists) (λ u v j k apart e. apart (cc)) (joint_once lists (λ ms j. each ms (there j)))))
+      (pairwise_like (λ x y. x ≢ y) _ xs (λ m n i j apart u v k l e. let r = map_in _ (joint g lists) k in let s = map_in _ (joint g lists) l in apart cc) (each xs here))
+      (λ m i. pairwise_map (λ x y. x ≢ y) (λ js. m ∷ js) (joint g lists) (pairwise_like (λ x y. x ≢ y) _ (joint g lists) (λ u v j k apart e. apart cc) (joint_once lists (λ ms j. each ms (there j)))))
 
   module _ (p : Play) (K : List (Atom ℕ)) where
     abbrev lists : List (List ℕ)

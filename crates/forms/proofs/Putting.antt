@@ -27,10 +27,6 @@ nothing : {X : Type 0} (old : List X) (o : Option (List X)) → map_some (λ xs.
 nothing old None e = refl
 nothing old (Some xs) e = cc
 
-pub sofar_broken : {X : Type 0} (f : Term → Option X) (all left rest : List Term) (t : Term) (old mid : List X) → Sofar f all left old mid → left ≡ t ∷ rest → f t ≡ None → all_of f all ≡ None
-sofar_broken f all left rest t old mid sofar is none_there =
-    nothing old (all_of f all) (sofar ∙ ap (λ us. map_some (λ xs. mid ++ xs) (all_of f us)) is ∙ ap (λ o. map_some (λ xs. mid ++ xs) (after o (λ y. map_some (λ ys. y ∷ ys) (all_of f rest)))) none_there)
-
 pub sofar_all : {X : Type 0} (f : Term → Option X) (all left : List Term) (old new : List X) → Sofar f all left old new → left ≡ [] → map_some (λ xs. old ++ xs) (all_of f all) ≡ Some new
 sofar_all f all left old new sofar is = sofar ∙ ap (λ us. map_some (λ xs. new ++ xs) (all_of f us)) is ∙ ap Some (append-nil new)
 

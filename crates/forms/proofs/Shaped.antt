@@ -1,5 +1,7 @@
 -- A term by what comes first in it.
 use Rattle.std.proofs.Common.{◌≡◌, ℕ, Bool, true, false, ◌&&◌, List, [], ◌∷◌, map, Some, None, Option, is_none, sym, refl, ap, ◌∙◌, subst, Bor}
+use Rattle.std.specs.Bool.{then_some}
+use Rattle.std.specs.Option.{option_map}
 use Rattle.std.proofs.lemmas.Bool.{cond-false, cond-true}
 use Rattle.definitions.specs.Form.{Keyword, Atom, spelling, keyword, same_word, led_by, list, when, is_term, plain, no_keyword, word_atom, an_atom, a_knows, Literal, atom, a_not, map_some}
 use Rattle.definitions.specs.Term as terms
@@ -12,8 +14,6 @@ use Rattle.text.specs.Terms.{tree, trees, left, listed, PartsAre}
 use Rattle.forms.specs.declared.shape.Shape.{Shape}
 use Rattle.forms.specs.Args.{only, both}
 use Rattle.forms.specs.Shapes.{PairIs, ShapeIs}
-use Rattle.std.specs.Bool.{then_some}
-use Rattle.std.specs.Option.{option_map}
 use Rattle.forms.specs.declared.keyword.Keyword as src
 use Rattle.forms.specs.View.{keyword_view, terms_view}
 use Rattle.forms.proofs.Listed.{listed_bare}

@@ -1,14 +1,14 @@
 -- What the parts of a body stand for in the definitions, and what adding to some comes to.
 --     part_view, body_view    the alternatives of a part, and the parts of a body
---     Added           one is added at the end, or there is none, or memory is wanting
---     Put             some are added at the end, or there are none, or memory is wanting
---     alternatives    the literals of an `or`, at least one
+--     Added                   one is added at the end, or there is none, or memory is wanting
+--     Put                     some are added at the end, or there are none, or memory is wanting
+--     alternatives            the literals of an `or`, at least one
 use Rattle.std.specs.Prelude.{◌≡◌, Vec, List, [], ◌∷◌, ◌++◌, map, Some, None, Ok, Err, vec_items, Option, Result}
+use Rattle.std.specs.declared.alloc.Global.{Global}
 use Rattle.definitions.specs.Form as form
 use Rattle.definitions.specs.Form.{map_some}
 use Rattle.definitions.specs.Term.{Term}
 use Rattle.forms.specs.declared.body.Body.{Body}
-use Rattle.std.specs.declared.alloc.Global.{Global}
 use Rattle.text.specs.declared.term.Term as terms
 use Rattle.forms.specs.declared.fault.FormFault.{FormFault}
 use Rattle.forms.specs.declared.literal.Literal.{Literal}

@@ -1,21 +1,8 @@
 -- What an opening bracket must have behind it in a term: a word, and then not its end.
---     opens, heads     an opening bracket, and a word and what may follow it there
---     first_headed     an opening bracket that comes first has it
---     all_headed       each has it
+--     first_headed    an opening bracket that comes first has it
+--     all_headed      each has it
 use Rattle.std.specs.Prelude.{Bool, true, false, ◌&&◌, List, [], ◌∷◌}
 use Rattle.definitions.specs.Text.{Token}
-
-abbrev pub opens : Token → Bool
-opens (Token.word p w) = false
-opens (Token.opening p) = true
-opens Token.closing = false
-
-abbrev pub heads : Token → Token → Bool
-heads (Token.opening p) t = false
-heads Token.closing t = false
-heads (Token.word p w) (Token.word q v) = true
-heads (Token.word p w) (Token.opening q) = true
-heads (Token.word p w) Token.closing = false
 
 abbrev pub first_headed : List Token → Bool
 first_headed [] = true

@@ -12,8 +12,7 @@ use text::{Term, Terms};
 pub(crate) fn only<'t>(args: Terms<'t>) -> Option<Term<'t>>
     ensures { option_map term_view result ≡ only (terms_view args.entry) }
 {
-    let mut rest = args;
-    let first = rest.next()?;
+    let (first, rest) = args.split_first()?;
     rest.is_empty().then_some(first)
 }
 
@@ -21,8 +20,7 @@ pub(crate) fn only<'t>(args: Terms<'t>) -> Option<Term<'t>>
 pub(crate) fn both<'t>(args: Terms<'t>) -> Option<(Term<'t>, Term<'t>)>
     ensures { option_map pair_view result ≡ both (terms_view args.entry) }
 {
-    let mut rest = args;
-    let first = rest.next()?;
+    let (first, rest) = args.split_first()?;
     let second = only(rest)?;
     Some((first, second))
 }

@@ -53,8 +53,8 @@ fn body_keyword<'t>(k: Keyword, args: Terms<'t>) -> Option<Atom<Term<'t>>>
     ensures { option_map atom_view result ≡ body_atom (keyword_view k) (terms_view args.entry) }
 {
     match k {
-        Keyword::Role => one_term(args).map(|r| Atom::Role(r)),
-        Keyword::True => one_term(args).map(|f| Atom::True(f)),
+        Keyword::Role => one_term(args).map(Atom::Role),
+        Keyword::True => one_term(args).map(Atom::True),
         Keyword::Does => two_terms(args).map(|(r, m)| Atom::Does(r, m)),
         Keyword::Legal => two_terms(args).map(|(r, m)| Atom::Legal(r, m)),
         Keyword::Goal => a_goal(args),
@@ -68,7 +68,7 @@ fn head_keyword<'t>(k: Keyword, args: Terms<'t>) -> Option<Atom<Term<'t>>>
     ensures { option_map atom_view result ≡ head_atom (keyword_view k) (terms_view args.entry) }
 {
     match k {
-        Keyword::Next => one_term(args).map(|f| Atom::Next(f)),
+        Keyword::Next => one_term(args).map(Atom::Next),
         Keyword::Legal => two_terms(args).map(|(r, m)| Atom::Legal(r, m)),
         Keyword::Sees => two_terms(args).map(|(r, e)| Atom::Sees(r, e)),
         Keyword::Goal => a_goal(args),
@@ -114,11 +114,11 @@ fn an_atom<'t, F: FnOnce(Keyword, Terms<'t>) -> Option<Atom<Term<'t>>>>(
 pub(crate) fn atom_of<'t>(term: Term<'t>) -> Option<Atom<Term<'t>>>
     ensures { option_map atom_view result ≡ atom (term_view term.entry) }
 {
-    an_atom(term, |k, args| body_keyword(k, args))
+    an_atom(term, body_keyword)
 }
 
 pub(crate) fn head_of<'t>(term: Term<'t>) -> Option<Atom<Term<'t>>>
     ensures { option_map atom_view result ≡ head (term_view term.entry) }
 {
-    an_atom(term, |k, args| head_keyword(k, args))
+    an_atom(term, head_keyword)
 }

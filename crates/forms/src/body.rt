@@ -1,8 +1,7 @@
 // The parts of a rule's body.
-ghost use Rattle.std.specs.Prelude.{◌≡◌, [], map};
+ghost use Rattle.std.specs.Prelude.{◌≡◌, []};
 ghost use Rattle.definitions.specs.Form.{literal, part, all_of};
-ghost use Rattle.forms.specs.Bodies.{body_view, Added, Put, alternatives};
-ghost use Rattle.forms.specs.Literals.{literal_view};
+ghost use Rattle.forms.specs.Bodies.{part_view, body_view, Added, Put, alternatives};
 ghost use Rattle.forms.specs.View.{term_view, terms_view};
 
 use crate::fault::FormFault;
@@ -13,7 +12,7 @@ use std::alloc::Global;
 use text::{Term, Terms};
 
 fn put_literal<'t>(literals: &mut Vec<Literal<Term<'t>>>, term: Term<'t>) -> Result<(), FormFault>
-    ensures { Added result (map literal_view literals.old.items) (map literal_view literals.new.items) (literal (term_view term.entry)) }
+    ensures { Added result (part_view literals.old) (part_view literals.new) (literal (term_view term.entry)) }
 {
     let literal = literal_of(term).ok_or(FormFault::Broken)?;
     literals.push(literal)?;
@@ -25,7 +24,7 @@ fn put_alternatives<'t>(
     literals: &mut Vec<Literal<Term<'t>>>,
     terms: Terms<'t>,
 ) -> Result<(), FormFault>
-    ensures { Put result (map literal_view literals.old.items) (map literal_view literals.new.items) (alternatives (terms_view terms.entry)) }
+    ensures { Put result (part_view literals.old) (part_view literals.new) (alternatives (terms_view terms.entry)) }
 {
     if terms.is_empty() {
         return Err(FormFault::Broken);
@@ -38,7 +37,7 @@ fn put_alternatives<'t>(
 
 // A literal, or an `or` of some.
 fn put_part<'t>(literals: &mut Vec<Literal<Term<'t>>>, term: Term<'t>) -> Result<(), FormFault>
-    ensures { Put result (map literal_view literals.old.items) (map literal_view literals.new.items) (part (term_view term.entry)) }
+    ensures { Put result (part_view literals.old) (part_view literals.new) (part (term_view term.entry)) }
 {
     match led_by(term) {
         Some((Keyword::Or, terms)) => put_alternatives(literals, terms),

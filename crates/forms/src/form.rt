@@ -34,10 +34,7 @@ pub enum Form<'t> {
 fn rule_of<'t>(heap: Global, terms: Terms<'t>) -> Result<Form<'t>, FormFault>
     ensures { FormIs result (a_rule (terms_view terms.entry)) }
 {
-    let mut parts = terms;
-    let Some(first) = parts.next() else {
-        return Err(FormFault::Broken);
-    };
+    let (first, parts) = terms.split_first().ok_or(FormFault::Broken)?;
     if parts.is_empty() {
         return Err(FormFault::Broken);
     }
@@ -89,11 +86,7 @@ pub fn form_of<'t>(heap: Global, tokens: &'t [Token<'t>]) -> Result<Form<'t>, Fo
     ensures value { (u : Tree ℕ) → map token tokens.entry.now ≡ flat u → FormIs result (form (bare u)) }
     ensures whole { OnOk result (IsTerm (map token tokens.entry.now)) }
 {
-    let Some(terms) = Terms::of(tokens) else {
-        return Err(FormFault::Broken);
-    };
-    let Some(term) = only(terms) else {
-        return Err(FormFault::Broken);
-    };
+    let terms = Terms::of(tokens).ok_or(FormFault::Broken)?;
+    let term = only(terms).ok_or(FormFault::Broken)?;
     form_in(heap, term)
 }

@@ -36,7 +36,7 @@ fn not_of<'t>(args: Terms<'t>) -> Option<Literal<Term<'t>>>
 fn bare_of<'t>(term: Term<'t>) -> Option<Literal<Term<'t>>>
     ensures { option_map literal_view result ≡ map_some unnegated (atom (term_view term.entry)) }
 {
-    atom_of(term).map(|a| Literal::Bare(a))
+    atom_of(term).map(Literal::Bare)
 }
 
 pub(crate) fn literal_of<'t>(term: Term<'t>) -> Option<Literal<Term<'t>>>

@@ -1,5 +1,4 @@
 // A term by what comes first in it.
-ghost use Rattle.std.specs.Prelude.{◌≡◌};
 ghost use Rattle.forms.specs.View.{term_view, terms_view};
 ghost use Rattle.forms.specs.Shapes.{ShapeIs, PairIs, Led};
 
@@ -17,9 +16,8 @@ pub enum Shape<'t> {
 fn pair_shape<'t>(terms: Terms<'t>) -> Shape<'t>
     ensures { PairIs result (terms_view terms.entry) }
 {
-    let mut rest = terms;
-    match rest.next() {
-        Some(first) => match first.parts() {
+    match terms.split_first() {
+        Some((first, rest)) => match first.parts() {
             Parts::Word(w) => Shape::Pair(w, rest),
             Parts::Pair(_) => Shape::Other,
         },

@@ -26,7 +26,7 @@ mod tests {
         }
     }
 
-    fn found(outcome: Result<Form, FormFault>) -> Found {
+    fn kind_found(outcome: Result<Form, FormFault>) -> Found {
         Ok(kind_of(outcome?))
     }
 
@@ -39,9 +39,18 @@ mod tests {
         if !terms.is_empty() {
             return None;
         }
-        let by_term = found(form_in(heap, term));
-        let by_tokens = found(form_of(heap, term.tokens()));
+        let by_term = kind_found(form_in(heap, term));
+        let by_tokens = kind_found(form_of(heap, term.tokens()));
         Some((by_term, by_tokens))
+    }
+
+    // The first of some texts that is something else.
+    fn other<'t>(heap: Global, texts: &[&'t str], wanted: Found) -> Option<&'t str> {
+        let wanted = Some((wanted, wanted));
+        texts
+            .iter()
+            .copied()
+            .find(|text| kinds(heap, text) != wanted)
     }
 
     #[test]
@@ -56,15 +65,7 @@ mod tests {
             "(role (not or))",
             "(role (a <=))",
         ];
-        for text in texts {
-            let kinds = kinds(rt.alloc(), text);
-            assert_eq!(rt;
-                kinds,
-                Some((Ok(Kind::Declares), Ok(Kind::Declares))),
-                "{}",
-                text
-            );
-        }
+        assert_eq!(rt; other(rt.alloc(), &texts, Ok(Kind::Declares)), None);
     }
 
     #[test]
@@ -75,10 +76,7 @@ mod tests {
             "(init true)",
             "(init (init f))",
         ];
-        for text in texts {
-            let kinds = kinds(rt.alloc(), text);
-            assert_eq!(rt; kinds, Some((Ok(Kind::Opens), Ok(Kind::Opens))), "{}", text);
-        }
+        assert_eq!(rt; other(rt.alloc(), &texts, Ok(Kind::Opens)), None);
     }
 
     #[test]
@@ -117,10 +115,7 @@ mod tests {
             "(Init f)",
             "(terminals x)",
         ];
-        for text in texts {
-            let kinds = kinds(rt.alloc(), text);
-            assert_eq!(rt; kinds, Some((Ok(Kind::Rules), Ok(Kind::Rules))), "{}", text);
-        }
+        assert_eq!(rt; other(rt.alloc(), &texts, Ok(Kind::Rules)), None);
     }
 
     #[test]
@@ -156,10 +151,7 @@ mod tests {
             "(<= p (or (distinct a b) (not q)))",
             "(<= p q (or r (true f) (not s)) (not u))",
         ];
-        for text in texts {
-            let kinds = kinds(rt.alloc(), text);
-            assert_eq!(rt; kinds, Some((Ok(Kind::Rules), Ok(Kind::Rules))), "{}", text);
-        }
+        assert_eq!(rt; other(rt.alloc(), &texts, Ok(Kind::Rules)), None);
     }
 
     #[test]
@@ -232,15 +224,7 @@ mod tests {
             "(goal r a)",
             "(goal r (5 5))",
         ];
-        for text in texts {
-            let kinds = kinds(rt.alloc(), text);
-            assert_eq!(rt;
-                kinds,
-                Some((Err(FormFault::Broken), Err(FormFault::Broken))),
-                "{}",
-                text
-            );
-        }
+        assert_eq!(rt; other(rt.alloc(), &texts, Err(FormFault::Broken)), None);
     }
 
     #[test]
@@ -310,15 +294,7 @@ mod tests {
             "(<= p (knows r (knows q)))",
             "(<= p (knows (r) q))",
         ];
-        for text in texts {
-            let kinds = kinds(rt.alloc(), text);
-            assert_eq!(rt;
-                kinds,
-                Some((Err(FormFault::Broken), Err(FormFault::Broken))),
-                "{}",
-                text
-            );
-        }
+        assert_eq!(rt; other(rt.alloc(), &texts, Err(FormFault::Broken)), None);
     }
 
     #[test]
@@ -333,7 +309,7 @@ mod tests {
         let mut forms = Forms::new(rt.alloc());
         for text in texts {
             assert!(rt; forms.read(rt.alloc(), text.as_bytes()).is_ok(), "{}", text);
-            let found = found(form_of(rt.alloc(), forms.tokens()));
+            let found = kind_found(form_of(rt.alloc(), forms.tokens()));
             assert_eq!(rt; found, Err(FormFault::Broken), "{}", text);
         }
     }
@@ -359,14 +335,14 @@ mod tests {
         ];
         for (i, tokens) in cases.iter().enumerate() {
             assert_eq!(rt;
-                found(form_of(rt.alloc(), *tokens)),
+                kind_found(form_of(rt.alloc(), *tokens)),
                 Err(FormFault::Broken),
                 "{}",
                 i
             );
         }
         let fact = [open, word, word, close];
-        assert_eq!(rt; found(form_of(rt.alloc(), &fact)), Ok(Kind::Rules));
+        assert_eq!(rt; kind_found(form_of(rt.alloc(), &fact)), Ok(Kind::Rules));
     }
 
     #[test]

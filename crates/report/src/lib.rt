@@ -1,17 +1,16 @@
 // The lines that say what a rules text holds, or what is wrong and where.
 #![tactic(auto)]
 
-ghost use Rattle.std.specs.Prelude.{◌≡◌, ◌++◌, OnOk};
 ghost use Rattle.definitions.specs.Reading.{verdict};
 ghost use Rattle.text.specs.Faults.{refusal};
 ghost use Rattle.text.specs.Terms.{tree, trees};
-ghost use Rattle.report.specs.Lines.{form_line, form_lines, refusal_line, lines, Reported};
+ghost use Rattle.report.specs.Lines.{form_line, form_lines, refusal_line, lines, Added, Reported};
 
-use std::alloc::{AllocError, Global};
+use std::alloc::AllocError;
 use text::{Forms, Refusal, Term, Terms, write};
 
 fn put_form(form: Term, out: &mut Vec<u8>) -> Result<(), AllocError>
-    ensures { OnOk result (out.new.items ≡ out.old.items ++ form_line (tree form.entry)) }
+    ensures { Added result out.old.items out.new.items (form_line (tree form.entry)) }
 {
     let at = form.place();
     let number = format!(in *out.allocator(); "{at} ")?;
@@ -23,7 +22,7 @@ fn put_form(form: Term, out: &mut Vec<u8>) -> Result<(), AllocError>
 
 #[tactic(auto, using(crate::proofs::Forms::line_by_line))]
 fn put_forms(forms: Terms, out: &mut Vec<u8>) -> Result<(), AllocError>
-    ensures { OnOk result (out.new.items ≡ out.old.items ++ form_lines (trees forms.entry)) }
+    ensures { Added result out.old.items out.new.items (form_lines (trees forms.entry)) }
 {
     for form in forms {
         put_form(form, out)?;
@@ -32,7 +31,7 @@ fn put_forms(forms: Terms, out: &mut Vec<u8>) -> Result<(), AllocError>
 }
 
 fn put_refusal(r: Refusal, out: &mut Vec<u8>) -> Result<(), AllocError>
-    ensures { OnOk result (out.new.items ≡ out.old.items ++ refusal_line (refusal r)) }
+    ensures { Added result out.old.items out.new.items (refusal_line (refusal r)) }
 {
     let number = r.number;
     let at = r.place;
@@ -40,9 +39,10 @@ fn put_refusal(r: Refusal, out: &mut Vec<u8>) -> Result<(), AllocError>
     out.extend_from_slice(line.as_bytes())
 }
 
-fn put_lines(heap: Global, text: &[u8], out: &mut Vec<u8>) -> Result<(), AllocError>
-    ensures { OnOk result (out.new.items ≡ out.old.items ++ lines (verdict text.now)) }
+fn put_lines(text: &[u8], out: &mut Vec<u8>) -> Result<(), AllocError>
+    ensures { Added result out.old.items out.new.items (lines (verdict text.now)) }
 {
+    let heap = *out.allocator();
     let mut forms = Forms::new(heap);
     match forms.read(heap, text) {
         Ok(()) => put_forms(forms.terms(), out),
@@ -51,11 +51,11 @@ fn put_lines(heap: Global, text: &[u8], out: &mut Vec<u8>) -> Result<(), AllocEr
 }
 
 // Fills `out` with the lines of a text; where memory is wanting it is left empty.
-pub fn report(heap: Global, text: &[u8], out: &mut Vec<u8>) -> Result<(), AllocError>
+pub fn report(text: &[u8], out: &mut Vec<u8>) -> Result<(), AllocError>
     ensures { Reported result out.new.items (lines (verdict text.now)) }
 {
     out.clear();
-    let answer = put_lines(heap, text, out);
+    let answer = put_lines(text, out);
     if answer.is_err() {
         out.clear();
     }

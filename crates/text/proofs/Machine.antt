@@ -1,23 +1,12 @@
 -- What the steps of a `Reader` come to.
-use Rattle.std.proofs.Common.{◌≡◌, ℕ, ◌+◌, ◌-◌, ◌<◌, ◌≤◌, true, List, [], ◌∷◌, ◌++◌, length, get_or, take, drop, IfSome, Some, None, Option, sym, ap, ◌∙◌, subst, arith}
+use Rattle.std.proofs.Common.{◌≡◌, ℕ, ◌+◌, ◌-◌, ◌<◌, ◌≤◌, true, List, [], ◌∷◌, ◌++◌, length, get_or, take, drop, sym, ap, ◌∙◌, subst, arith}
 use Rattle.std.specs.Prelude.{slice_range}
-use Rattle.std.proofs.lemmas.List.{take_more, drop_more, get_or-drop, length-drop, at_drop_more}
+use Rattle.std.proofs.lemmas.List.{take_more, get_or-drop, length-drop}
 use Rattle.std.proofs.lemmas.Bool.{cond-true}
-use Rattle.definitions.specs.Refusal.{Refusal, Verdict, refused}
-use Rattle.definitions.specs.Term.{Placed}
 use Rattle.definitions.specs.Text.{Levels, sort, in_words}
-use Rattle.definitions.specs.Reading.{Mode, next, stop, step, reading}
-use Rattle.definitions.proofs.Steps.{reading_by}
-use Rattle.text.specs.declared.fault.TextFault.{TextFault}
+use Rattle.definitions.specs.Reading.{Mode, next, step}
 use Rattle.text.specs.declared.reader.State.{State}
-use Rattle.text.specs.Faults.{of_text}
 use Rattle.text.specs.Machine.{mode, Started}
-use Rattle.text.specs.Nesting.{Tells}
-
-pub word_starts : (text : List ℕ) (at : ℕ) → at < length text → slice_range text at (at + 1) ≡ get_or text at 0 ∷ []
-word_starts text at lt =
-    let one : at + 1 - at ≡ 1 = omega arith in
-    rw (one, drop_more text at 0)
 
 word_goes_on : (text : List ℕ) (start at : ℕ) → start ≤ at → at < length text → slice_range text start (at + 1) ≡ slice_range text start at ++ get_or text at 0 ∷ []
 word_goes_on text start at le lt =
@@ -31,14 +20,3 @@ step_goes_on s start at text b ls is begun lt here more =
     let le : start ≤ at = subst (λ t. Started t at) is begun in
     let on : slice_range text start at ++ b ∷ [] ≡ slice_range text start (at + 1) = ap (λ x. slice_range text start at ++ x ∷ []) here ∙ sym (word_goes_on text start at le lt) in
     rw is (cond-true _ _ _ more ∙ ap (λ w. next (Mode.in_word start w) ls) on, omega arith)
-
--- one more byte of the text is read
-pub reading_on : (text : List ℕ) (at : ℕ) (m n : Mode) (ls ks : Levels) → at < length text → step at m ls (get_or text at 0) ≡ next n ks → reading at m ls (drop at text) ≡ reading (at + 1) n ks (drop (at + 1) text)
-reading_on text at m n ls ks lt e = at_drop_more (reading at m ls) text at 0 lt ∙ reading_by at m ls (get_or text at 0) (drop (at + 1) text) (next n ks) e
-
-pub reading_stops : (text : List ℕ) (at : ℕ) (m : Mode) (ls : Levels) (v : Verdict Placed) (f : TextFault) → at < length text → reading at m ls (drop at text) ≡ v → Tells f (step at m ls (get_or text at 0)) → IfSome (of_text f) (λ r. v ≡ refused r)
-reading_stops text at m ls v f lt e told = go (of_text f) told
-  where
-    go : (o : Option Refusal) → IfSome o (λ r. step at m ls (get_or text at 0) ≡ stop r) → IfSome o (λ r. v ≡ refused r)
-    go None t = tt
-    go (Some r) t = sym e ∙ at_drop_more (reading at m ls) text at 0 lt ∙ reading_by at m ls (get_or text at 0) (drop (at + 1) text) (stop r) t

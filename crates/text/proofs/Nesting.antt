@@ -1,13 +1,13 @@
 -- What the calls of a `Nest` make of its levels.
-use Rattle.std.proofs.Common.{◌≡◌, ℕ, suc, ◌+◌, ◌-◌, ◌<◌, Bool, true, false, List, [], ◌∷◌, ◌++◌, map, length, Some, get_or, take, if◌then◌else◌, sym, refl, ap, ◌∙◌, append_assoc, add-one, arith}
-use Rattle.std.proofs.lemmas.List.{map_push, length_push, get_or_push, take_at, take_more, take_all}
+use Rattle.std.proofs.Common.{◌≡◌, ℕ, suc, ◌+◌, ◌-◌, ◌<◌, Bool, true, false, List, [], ◌∷◌, ◌++◌, map, length, Some, take, if◌then◌else◌, sym, refl, ap, ◌∙◌, append_assoc, add-one, arith}
+use Rattle.std.proofs.lemmas.List.{map_push, length_push, take_at, take_more, take_all}
 use Rattle.std.proofs.lemmas.Option.{slice_get_within, get_or_from_slice_get}
 use Rattle.std.specs.List.{slice_get}
-use Rattle.definitions.specs.Refusal.{accepted, refused}
+use Rattle.definitions.specs.Refusal.{accepted}
 use Rattle.definitions.specs.Term.{Tree, Placed, none, ◌&◌}
 use Rattle.definitions.specs.Text.{Levels, outer, inner, spread, flat, flats, open_brackets, in_text}
 use Rattle.definitions.specs.Text as text
-use Rattle.definitions.specs.Reading.{Mode, next, stop, add, shut, ended}
+use Rattle.definitions.specs.Reading.{Mode, next, add, shut, ended}
 use Rattle.definitions.proofs.Levels.{spread_add}
 use Rattle.text.specs.declared.nest.Nest.{Nest}
 use Rattle.text.specs.declared.token.Token.{Token}
@@ -70,15 +70,6 @@ close_kept xs ys old new h some is fewer = go (levels (map token xs)) refl
         (rw from (append_assoc (spread ls) (text.Token.opening at ∷ flats ts) (text.Token.closing ∷ []) ∙ sym (spread_add ls p)))
         (rw from (fewer ∙ ap (λ os. take (length os - 1) os) was ∙ take_at (places ls) (at ∷ []) _ one ∙ sym (places_add ls p)))
 
-pub shut_outside : (at : ℕ) (ls : Levels) → length (places ls) ≡ 0 → shut at ls ≡ stop (in_text 4 at)
-shut_outside at (outer ts) e = refl
-shut_outside at (inner ls from ts) e = absurd (omega (arith, length_push (places ls) from))
-
-pub shut_empty : (at : ℕ) (ls : Levels) → fresh ls ≡ true → shut at ls ≡ stop (in_text 4 at)
-shut_empty at (outer ts) e = cc
-shut_empty at (inner ls from none) e = refl
-shut_empty at (inner ls from (t & ts)) e = cc
-
 pub shut_filled : (at : ℕ) (ls : Levels) → 0 < length (places ls) → fresh ls ≡ false → shut at ls ≡ next Mode.between (put ls text.Token.closing)
 shut_filled at (outer ts) some e = absurd (omega arith)
 shut_filled at (inner ls from none) some e = cc
@@ -97,12 +88,6 @@ fresh_last xs x is =
     let one : length xs ≡ length xs - 1 + 1 = omega arith in
     let whole : xs ≡ take (length xs - 1) xs ++ x ∷ [] = sym (take_all (length xs) xs (omega arith)) ∙ ap (λ n. take n xs) one ∙ take_more xs (length xs - 1) x within ∙ ap (λ y. take (length xs - 1) xs ++ y ∷ []) (get_or_from_slice_get xs (length xs - 1) x x is) in
     sym (ap fresh (levels_more (take (length xs - 1) xs) xs x whole) ∙ fresh_put _ (token x))
-
-pub ended_open : (ls : Levels) (x : ℕ) → 0 < length (places ls) → x ≡ get_or (places ls) (length (places ls) - 1) x → ended ls ≡ refused (in_text 4 x)
-ended_open (outer ts) x some is = absurd (omega arith)
-ended_open (inner ls at ts) x some is =
-    let last : length (places ls) ≡ length (places ls ++ at ∷ []) - 1 = omega (arith, length_push (places ls) at) in
-    ap (λ p. refused (in_text 4 p)) (sym (is ∙ get_or_push (places ls) at x (length (places ls ++ at ∷ []) - 1) last))
 
 pub ended_closed : (ls : Levels) → length (places ls) ≡ 0 → (us : Placed) × (ended ls ≡ accepted us) × (spread ls ≡ flats us)
 ended_closed (outer ts) few = (ts, refl, refl)

@@ -1,6 +1,5 @@
 -- The number, layer and place of each fault; want of memory has none.
-use Rattle.std.specs.Prelude.{Some, None, Option, Ok, Err, Result}
-use Rattle.std.specs.declared.alloc.AllocError.{AllocError}
+use Rattle.std.specs.Prelude.{Some, None, Option}
 use Rattle.definitions.specs.Refusal as meaning
 use Rattle.definitions.specs.Refusal.{text_layer, rules_layer, deal_layer, match_layer}
 use Rattle.definitions.specs.Text.{in_text}
@@ -17,11 +16,6 @@ layer Layer.Match = match_layer
 
 abbrev pub refusal : Refusal → meaning.Refusal
 refusal r = record { number = r.number; layer = layer r.layer; place = r.place }
-
--- the refusal that an answer tells, if any
-abbrev pub told : Result Refusal AllocError → Option meaning.Refusal
-told (Ok r) = Some (refusal r)
-told (Err e) = None
 
 abbrev pub of_text : TextFault → Option meaning.Refusal
 of_text (Memory e) = None

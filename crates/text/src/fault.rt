@@ -1,7 +1,9 @@
 // Why a text is refused. specs/Faults.antt gives each case its number, layer and place.
 ghost use Rattle.std.specs.Prelude.{◌≡◌, alloc_error};
 ghost use Rattle.text.specs.declared.fault.TextFault.TheVariants.{Memory};
-ghost use Rattle.text.specs.Faults.{of_text, told};
+ghost use Rattle.std.specs.Option.{option_map};
+ghost use Rattle.std.specs.Result.{result_ok};
+ghost use Rattle.text.specs.Faults.{of_text, refusal};
 
 use crate::refusal::{Layer, Refusal};
 use std::alloc::{AllocError, AllocFailed};
@@ -31,7 +33,7 @@ impl<T: Drop> From<AllocFailed<T>> for TextFault {
 impl TextFault {
     // What is refused, or want of memory, which has no number.
     pub fn refusal(self) -> Result<Refusal, AllocError>
-        ensures { told result ≡ of_text self }
+        ensures { option_map refusal (result_ok result) ≡ of_text self }
     {
         let (number, place) = match self {
             TextFault::Memory(e) => return Err(e),

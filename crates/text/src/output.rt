@@ -1,5 +1,5 @@
 // Tokens written out as bytes.
-ghost use Rattle.std.specs.Prelude.{◌≡◌, false, map};
+ghost use Rattle.std.specs.Prelude.{false, map};
 ghost use Rattle.definitions.specs.Writing.{spaced, spelt, Reread};
 ghost use Rattle.text.specs.View.{token};
 ghost use Rattle.text.specs.Output.{Appended, Grown};

@@ -8,21 +8,21 @@ use crate::span::{is_balanced, term_len};
 use crate::token::Token;
 
 // The tokens of one term.
-#[derive(Clone, Copy)]
+#[derive(Clone, Copy, Debug)]
 pub struct Term<'t> {
     tokens: &'t [Token<'t>],
     pub ghost whole: { IsTerm (map token tokens.now) },
 }
 
 // The tokens of some terms, one after another.
-#[derive(Clone, Copy)]
+#[derive(Clone, Copy, Debug)]
 pub struct Terms<'t> {
     tokens: &'t [Token<'t>],
     pub ghost whole: { AreTerms (map token tokens.now) },
 }
 
 // A word, or what stands in a bracket pair.
-#[derive(Clone, Copy)]
+#[derive(Clone, Copy, Debug)]
 pub enum Parts<'t> {
     Word(&'t [u8]),
     Pair(Terms<'t>),
@@ -112,7 +112,7 @@ impl<'t> Terms<'t> {
     }
 
     // The first term and the others.
-    fn split_first(self) -> Option<(Term<'t>, Terms<'t>)>
+    pub fn split_first(self) -> Option<(Term<'t>, Terms<'t>)>
         ensures { MatchOption result (left self.entry ≡ []) (λ p. left self.entry ≡ tree p.0 ∷ left p.1) }
     {
         if self.tokens.is_empty() {

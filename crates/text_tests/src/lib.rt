@@ -5,18 +5,16 @@
 mod tests {
     use std::alloc::{AllocError, Global};
     use std::test::Fail;
-    use text::{Forms, Parts, Term, Terms, TextFault, Token, term_len, write};
+    use text::{Forms, Parts, Terms, TextFault, Token, term_len, write};
 
     // The number and place of a text's refusal, or nothing where it is read.
     fn refused(heap: Global, text: &[u8]) -> Result<Option<(u8, usize)>, AllocError> {
         let mut forms = Forms::new(heap);
-        match forms.read(heap, text) {
-            Ok(()) => Ok(None),
-            Err(fault) => {
-                let refusal = fault.refusal()?;
-                Ok(Some((refusal.number, refusal.place)))
-            }
-        }
+        let Err(fault) = forms.read(heap, text) else {
+            return Ok(None);
+        };
+        let refusal = fault.refusal()?;
+        Ok(Some((refusal.number, refusal.place)))
     }
 
     // A text of `len` bytes, at least one: the first, then spaces.
@@ -35,25 +33,27 @@ mod tests {
         read && found.len() == tokens.len() && found.iter().zip(tokens).all(|(t, u)| t.is_like(*u))
     }
 
+    // The first case whose text is not read, or whose tokens come to another number.
+    fn other<F: Fn(&[Token]) -> usize>(
+        heap: Global,
+        cases: &[(&[u8], usize)],
+        number: F,
+    ) -> Option<usize>
+        requires { F.IsAlwaysCallable number }
+    {
+        let mut forms = Forms::new(heap);
+        for (i, case) in cases.iter().enumerate() {
+            let (text, wanted) = *case;
+            if forms.read(heap, text).is_err() || number(forms.tokens()) != wanted {
+                return Some(i);
+            }
+        }
+        None
+    }
+
     // Where terms start.
     fn places(heap: Global, terms: Terms) -> Result<Vec<usize>, AllocError> {
         terms.map(|t| t.place()).collect(heap)
-    }
-
-    // How a term is spelt that is a word.
-    fn word(term: Term) -> Option<&[u8]> {
-        match term.parts() {
-            Parts::Word(spelling) => Some(spelling),
-            Parts::Pair(_) => None,
-        }
-    }
-
-    // The terms in a bracket pair.
-    fn inside(term: Term) -> Option<Terms> {
-        match term.parts() {
-            Parts::Word(_) => None,
-            Parts::Pair(terms) => Some(terms),
-        }
     }
 
     // The forms of a text are written as these bytes, and the bytes read as the same tokens.
@@ -143,12 +143,7 @@ mod tests {
             (b"a;b\nc", 2),
             (b"(a;)\n)", 3),
         ];
-        let mut forms = Forms::new(rt.alloc());
-        for (i, case) in cases.iter().enumerate() {
-            let (text, count) = *case;
-            assert!(rt; forms.read(rt.alloc(), text).is_ok(), "{}", i);
-            assert_eq!(rt; forms.tokens().len(), count, "{}", i);
-        }
+        assert_eq!(rt; other(rt.alloc(), &cases, |tokens| tokens.len()), None);
     }
 
     #[test]
@@ -253,13 +248,14 @@ mod tests {
         let mut forms = Forms::new(heap);
         assert!(rt; forms.read(heap, b"ab (c (d e) f)").is_ok());
         let mut terms = forms.terms();
-        let first = terms.next().ok_or("a word")?;
-        assert_eq!(rt; word(first), Some(b"ab".as_slice()));
-        assert!(rt; inside(first).is_none());
-        let pair = terms.next().ok_or("a pair")?;
-        assert!(rt; word(pair).is_none());
-        let parts = inside(pair).ok_or("what is in the pair")?;
-        assert_eq!(rt; places(heap, parts)?.as_slice(), [4, 6, 12].as_slice());
+        let Parts::Word(spelling) = terms.next().ok_or("a word")?.parts() else {
+            return Err(Fail::from("a word"));
+        };
+        assert_eq!(rt; spelling, b"ab".as_slice());
+        let Parts::Pair(inside) = terms.next().ok_or("a pair")?.parts() else {
+            return Err(Fail::from("a pair"));
+        };
+        assert_eq!(rt; places(heap, inside)?.as_slice(), [4, 6, 12].as_slice());
         assert!(rt; terms.next().is_none());
         Ok(())
     }
@@ -367,12 +363,7 @@ mod tests {
             (b"((a)) b", 5),
             (b"(a (b c)) (d)", 7),
         ];
-        let mut forms = Forms::new(rt.alloc());
-        for (i, case) in cases.iter().enumerate() {
-            let (text, len) = *case;
-            assert!(rt; forms.read(rt.alloc(), text).is_ok(), "{}", i);
-            assert_eq!(rt; term_len(forms.tokens()), len, "{}", i);
-        }
+        assert_eq!(rt; other(rt.alloc(), &cases, |tokens| term_len(tokens)), None);
         assert_eq!(rt; term_len(&[Token::Close, Token::Close]), 1);
         assert_eq!(rt;
             term_len(&[Token::Open { at: 0 }, Token::Open { at: 1 }, Token::Close]),

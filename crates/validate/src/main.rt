@@ -15,7 +15,7 @@ fn run(rt: &HostRuntime) -> anyhow::Result<()> {
     ensure!(words.next().is_none(), "usage: validate [FILE]");
     let text = fs::read(rt, file.as_str())?;
     let mut out = Vec::new(rt.alloc());
-    report(rt.alloc(), text.as_slice(), &mut out)?;
+    report(text.as_slice(), &mut out)?;
     rt.stdout().write_all(out.as_slice())?;
     Ok(())
 }
