@@ -3,4 +3,7 @@ pub mod Listed
 pub mod Shaped
 pub mod Headed
 pub mod Putting
+pub mod Joining
+pub mod Streamed
 pub mod Formed
+pub mod Front

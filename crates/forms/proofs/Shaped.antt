@@ -12,7 +12,7 @@ use Rattle.text.specs.declared.term.Term.{Term}
 use Rattle.text.specs.declared.term.Terms.{Terms}
 use Rattle.text.specs.Terms.{tree, trees, left, listed, PartsAre}
 use Rattle.forms.specs.declared.shape.Shape.{Shape}
-use Rattle.forms.specs.Args.{only, both}
+use Rattle.forms.specs.Args.{only}
 use Rattle.forms.specs.Shapes.{PairIs, ShapeIs}
 use Rattle.forms.specs.declared.keyword.Keyword as src
 use Rattle.forms.specs.View.{keyword_view, terms_view}
@@ -22,7 +22,7 @@ pub pair_shaped : (s : Shape) (t : Tree ℕ) (ts : Terms) → PartsAre (Parts.Pa
 pair_shaped s (Tree.word at w) ts is h = absurd is
 pair_shaped s (Tree.pair at us) ts is h = subst (PairIs s) (listed_bare (trees ts) ∙ ap (λ vs. list (bares vs)) (sym is)) h
 
-unlike : (w : List ℕ) (k : Keyword) → keyword w ≡ None → same_word (spelling k) w ≡ false
+pub unlike : (w : List ℕ) (k : Keyword) → keyword w ≡ None → same_word (spelling k) w ≡ false
 unlike w k e = go (same_word (spelling k) w) (λ same. (keyword_names w).1.0 e k (sym ((same_word_decides (spelling k) w).0 same)))
   where
     go : (b : Bool) → (b ≡ true → ⊥) → b ≡ false
@@ -68,16 +68,21 @@ pub atom_word : (f : Keyword → List terms.Term → Option (Atom terms.Term)) (
 atom_word f w (Tree.pair p ts) k is e = absurd is
 atom_word f w (Tree.word p v) k is e = ap (λ o. word_atom o (Tree.word tt v)) (e ∙ ap keyword (sym is))
 
-pub knows_one : (ts : List terms.Term) (u : terms.Term) → Some u ≡ only ts → a_knows ts ≡ when (plain u) (Atom.common u)
-knows_one [] u e = cc
-knows_one (t ∷ []) u e = let same : u ≡ t = cc in ap (λ x. when (plain x) (Atom.common x)) (sym same)
-knows_one (t ∷ v ∷ ts) u e = cc
+pub knows_two : (ts rest : Terms) (x y : Term) → left ts ≡ tree x ∷ left rest → Some (bare (tree y)) ≡ only (terms_view rest) → a_knows (terms_view ts) ≡ when (is_term (bare (tree x)) && plain (bare (tree y))) (Atom.knows (bare (tree x)) (bare (tree y)))
+knows_two ts rest x y is one = ap (λ us. a_knows (map bare us)) is ∙ go (terms_view rest) one
+  where
+    go : (us : List terms.Term) → Some (bare (tree y)) ≡ only us → a_knows (bare (tree x) ∷ us) ≡ when (is_term (bare (tree x)) && plain (bare (tree y))) (Atom.knows (bare (tree x)) (bare (tree y)))
+    go [] e = cc
+    go (u ∷ []) e = let same : u ≡ bare (tree y) = cc in ap (λ v. when (is_term (bare (tree x)) && plain v) (Atom.knows (bare (tree x)) v)) same
+    go (u ∷ v ∷ us) e = cc
 
-pub knows_two : (ts : List terms.Term) (r p : terms.Term) → Some (r, p) ≡ both ts → a_knows ts ≡ when (is_term r && plain p) (Atom.knows r p)
-knows_two [] r p e = cc
-knows_two (t ∷ []) r p e = cc
-knows_two (t ∷ v ∷ []) r p e = let same : ◌≡◌ {A = terms.Term × terms.Term} (r, p) (t, v) = cc in ap (λ x. when (is_term x.0 && plain x.1) (Atom.knows x.0 x.1)) (sym same)
-knows_two (t ∷ v ∷ u ∷ ts) r p e = cc
+pub knows_more : (ts rest : Terms) (x : Term) → left ts ≡ tree x ∷ left rest → (trees rest ≡ none → ⊥) → None ≡ only (terms_view rest) → a_knows (terms_view ts) ≡ None
+knows_more ts rest x is some e = ap (λ us. a_knows (map bare us)) is ∙ go (trees rest) some e
+  where
+    go : (us : terms.Placed) → (us ≡ none → ⊥) → None ≡ only (map bare (listed us)) → a_knows (bare (tree x) ∷ map bare (listed us)) ≡ None
+    go none h e = absurd (h refl)
+    go (u & none) h e = cc
+    go (u & (v & us)) h e = refl
 
 pub not_one : (ts : List terms.Term) (u : terms.Term) → Some u ≡ only ts → a_not ts ≡ map_some Literal.negated (atom u)
 not_one [] u e = cc

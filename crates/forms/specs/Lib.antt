@@ -5,4 +5,5 @@ pub mod Args
 pub mod Atoms
 pub mod Literals
 pub mod Bodies
+pub mod Tokens
 pub mod Formed

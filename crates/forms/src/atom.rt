@@ -41,11 +41,12 @@ fn a_goal<'t>(args: Terms<'t>) -> Option<Atom<Term<'t>>>
 fn a_knows<'t>(args: Terms<'t>) -> Option<Atom<Term<'t>>>
     ensures { option_map atom_view result ≡ a_knows (terms_view args.entry) }
 {
-    if let Some(fact) = only(args) {
-        return is_plain(fact).then_some(Atom::Common(fact));
+    let (first, rest) = args.split_first()?;
+    if rest.is_empty() {
+        return is_plain(first).then_some(Atom::Common(first));
     }
-    let (role, fact) = both(args)?;
-    (is_term(role) && is_plain(fact)).then_some(Atom::Knows(role, fact))
+    let fact = only(rest)?;
+    (is_term(first) && is_plain(fact)).then_some(Atom::Knows(first, fact))
 }
 
 // What may stand in a body, by its keyword.

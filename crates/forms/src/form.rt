@@ -1,21 +1,23 @@
 // Declarations and rules.
-ghost use Rattle.std.specs.Prelude.{◌≡◌, ℕ, map, OnOk};
-ghost use Rattle.definitions.specs.Form.{form, a_rule};
-ghost use Rattle.definitions.specs.Term.{Tree, bare};
+ghost use Rattle.std.specs.Prelude.{◌≡◌, ℕ, List, Some, None, map, OnOk};
+ghost use Rattle.definitions.specs.Form as language;
+ghost use Rattle.definitions.specs.Form.{form, a_declaration, a_rule, keyword, leading, list};
+ghost use Rattle.definitions.specs.Term.{Tree, Placed, bare, bares};
 ghost use Rattle.definitions.specs.Text.{flat};
 ghost use Rattle.text.specs.Spelt.{IsTerm};
 ghost use Rattle.text.specs.View.{token};
-ghost use Rattle.forms.specs.Formed.{FormIs, bodiless, led_form};
-ghost use Rattle.forms.specs.View.{keyword_view, term_view, terms_view};
+ghost use Rattle.forms.specs.Formed.{FormIs, bodiless};
+ghost use Rattle.forms.specs.Tokens.{front, Closes};
+ghost use Rattle.forms.specs.View.{term_view};
 
-use crate::args::{one_term, only};
 use crate::atom::{Atom, head_of};
 use crate::body::Body;
 use crate::fault::FormFault;
-use crate::keyword::Keyword;
-use crate::shape::led_by;
+use crate::keyword::{Keyword, keyword_of};
+use crate::tokens::{are_many, declared, front, is_closed, is_one_word, whole};
+use crate::value::all_headed;
 use std::alloc::Global;
-use text::{Term, Terms, Token};
+use text::{Term, Token};
 
 #[derive(Drop)]
 pub struct Rule<'t> {
@@ -30,15 +32,40 @@ pub enum Form<'t> {
     Rules(Rule<'t>),
 }
 
-// A head, and the parts of a body.
-fn rule_of<'t>(heap: Global, terms: Terms<'t>) -> Result<Form<'t>, FormFault>
-    ensures { FormIs result (a_rule (terms_view terms.entry)) }
+// A role, to the bracket that closes its declaration.
+#[tactic(auto, using(crate::proofs::Front::declares_is, crate::proofs::Front::made_within))]
+fn declaration_of<'t>(tokens: &'t [Token<'t>]) -> Result<Form<'t>, FormFault>
+    ensures value { (ts : Placed) → Closes (map token tokens.entry.now) ts → FormIs result (a_declaration language.declares (list (bares ts))) }
+    ensures whole { OnOk result ((ts : Placed) × Closes (map token tokens.entry.now) ts) }
 {
-    let (first, parts) = terms.split_first().ok_or(FormFault::Broken)?;
-    if parts.is_empty() {
+    declared(tokens)
+        .map(Form::Declares)
+        .ok_or(FormFault::Broken)
+}
+
+// An opening feature, likewise.
+#[tactic(auto, using(crate::proofs::Front::opens_is, crate::proofs::Front::made_within))]
+fn opening_of<'t>(tokens: &'t [Token<'t>]) -> Result<Form<'t>, FormFault>
+    ensures value { (ts : Placed) → Closes (map token tokens.entry.now) ts → FormIs result (a_declaration language.opens (list (bares ts))) }
+    ensures whole { OnOk result ((ts : Placed) × Closes (map token tokens.entry.now) ts) }
+{
+    declared(tokens).map(Form::Opens).ok_or(FormFault::Broken)
+}
+
+// A head and the parts of a body, to the bracket that closes the rule.
+fn rule_of<'t>(heap: Global, tokens: &'t [Token<'t>]) -> Result<Form<'t>, FormFault>
+    ensures value { (ts : Placed) → Closes (map token tokens.entry.now) ts → FormIs result (a_rule (list (bares ts))) }
+    ensures whole { OnOk result ((ts : Placed) × Closes (map token tokens.entry.now) ts) }
+{
+    let Some((first, parts)) = Term::first_of(tokens) else {
+        return Err(FormFault::Broken);
+    };
+    if is_closed(parts) {
         return Err(FormFault::Broken);
     }
-    let head = head_of(first).ok_or(FormFault::Broken)?;
+    let Some(head) = head_of(first) else {
+        return Err(FormFault::Broken);
+    };
     let mut body = Body::new(heap);
     body.put_all(parts)?;
     Ok(Form::Rules(Rule { head, body }))
@@ -53,40 +80,68 @@ fn fact_of<'t>(heap: Global, term: Term<'t>) -> Result<Form<'t>, FormFault>
     Ok(Form::Rules(Rule { head, body }))
 }
 
-// The form of a pair, by the keyword that comes first and by what follows it.
-fn led_form<'t>(
+// A head alone that begins with a keyword: no head has more than two terms behind it.
+fn led_fact<'t>(
     heap: Global,
-    k: Keyword,
-    args: Terms<'t>,
-    term: Term<'t>,
+    rest: &'t [Token<'t>],
+    tokens: &'t [Token<'t>],
 ) -> Result<Form<'t>, FormFault>
-    ensures { FormIs result (led_form (keyword_view k) (terms_view args.entry) (term_view term.entry)) }
+    ensures value { (w : List ℕ) (k : language.Keyword) (u : Tree ℕ) → front (map token tokens.entry.now) ≡ Some (w, map token rest.entry.now) → keyword w ≡ Some k → map token tokens.entry.now ≡ flat u → FormIs result (bodiless (bare u)) }
+    ensures whole { OnOk result (IsTerm (map token tokens.entry.now)) }
 {
-    match k {
-        Keyword::Role => Ok(Form::Declares(one_term(args).ok_or(FormFault::Broken)?)),
-        Keyword::Init => Ok(Form::Opens(one_term(args).ok_or(FormFault::Broken)?)),
-        Keyword::Arrow => rule_of(heap, args),
-        _ => fact_of(heap, term),
+    if are_many(rest) {
+        return Err(FormFault::Broken);
     }
+    let term = whole(tokens).ok_or(FormFault::Broken)?;
+    fact_of(heap, term)
+}
+
+// A plain fact of more than a word.
+fn plain_fact<'t>(heap: Global, tokens: &'t [Token<'t>]) -> Result<Form<'t>, FormFault>
+    ensures value { (w : List ℕ) (u : Tree ℕ) → leading (bare u) ≡ Some w → keyword w ≡ None → map token tokens.entry.now ≡ flat u → FormIs result (bodiless (bare u)) }
+    ensures whole { OnOk result (IsTerm (map token tokens.entry.now)) }
+{
+    if !all_headed(tokens) {
+        return Err(FormFault::Broken);
+    }
+    let fact = whole(tokens).ok_or(FormFault::Broken)?;
+    let head = Atom::Fact(fact);
+    let body = Body::new(heap);
+    Ok(Form::Rules(Rule { head, body }))
+}
+
+// A word alone, if no word comes first behind a bracket.
+fn word_form<'t>(heap: Global, tokens: &'t [Token<'t>]) -> Result<Form<'t>, FormFault>
+    ensures value { (u : Tree ℕ) → front (map token tokens.entry.now) ≡ None → map token tokens.entry.now ≡ flat u → FormIs result (form (bare u)) }
+    ensures whole { OnOk result (IsTerm (map token tokens.entry.now)) }
+{
+    if !is_one_word(tokens) {
+        return Err(FormFault::Broken);
+    }
+    let term = whole(tokens).ok_or(FormFault::Broken)?;
+    fact_of(heap, term)
 }
 
 // The form that a term is.
-#[tactic(auto, using(crate::proofs::Formed::led_form_is))]
 pub fn form_in<'t>(heap: Global, term: Term<'t>) -> Result<Form<'t>, FormFault>
     ensures { FormIs result (form (term_view term.entry)) }
 {
-    match led_by(term) {
-        Some((k, args)) => led_form(heap, k, args, term),
-        None => fact_of(heap, term),
-    }
+    form_of(heap, term.tokens())
 }
 
-// The form that the tokens of a term are.
+// The form that the tokens of a term are. Nothing behind the first that is broken is looked at.
 pub fn form_of<'t>(heap: Global, tokens: &'t [Token<'t>]) -> Result<Form<'t>, FormFault>
     ensures value { (u : Tree ℕ) → map token tokens.entry.now ≡ flat u → FormIs result (form (bare u)) }
     ensures whole { OnOk result (IsTerm (map token tokens.entry.now)) }
 {
-    let terms = Terms::of(tokens).ok_or(FormFault::Broken)?;
-    let term = only(terms).ok_or(FormFault::Broken)?;
-    form_in(heap, term)
+    let Some((word, rest)) = front(tokens) else {
+        return word_form(heap, tokens);
+    };
+    match keyword_of(word) {
+        Some(Keyword::Role) => declaration_of(rest),
+        Some(Keyword::Init) => opening_of(rest),
+        Some(Keyword::Arrow) => rule_of(heap, rest),
+        Some(_) => led_fact(heap, rest, tokens),
+        None => plain_fact(heap, tokens),
+    }
 }

@@ -9,6 +9,7 @@ mod form;
 mod keyword;
 mod literal;
 mod shape;
+mod tokens;
 mod value;
 
 pub use atom::Atom;

@@ -16,11 +16,8 @@ pub enum Shape<'t> {
 fn pair_shape<'t>(terms: Terms<'t>) -> Shape<'t>
     ensures { PairIs result (terms_view terms.entry) }
 {
-    match terms.split_first() {
-        Some((first, rest)) => match first.parts() {
-            Parts::Word(w) => Shape::Pair(w, rest),
-            Parts::Pair(_) => Shape::Other,
-        },
+    match terms.first_word() {
+        Some((w, rest)) => Shape::Pair(w, rest),
         None => Shape::Other,
     }
 }

@@ -3,7 +3,7 @@ ghost use Rattle.std.specs.Prelude.{◌≡◌, ◌-◌, map};
 ghost use Rattle.definitions.specs.Form.{is_term, plain, value, when, digit};
 ghost use Rattle.definitions.specs.Term.{Tree};
 ghost use Rattle.text.specs.View.{token};
-ghost use Rattle.forms.specs.Headed.{first_headed};
+ghost use Rattle.forms.specs.Headed.{first_headed, all_headed};
 ghost use Rattle.forms.specs.View.{term_view};
 
 use crate::keyword::keyword_of;
@@ -32,12 +32,11 @@ fn first_headed(tokens: &[Token]) -> bool
     }
 }
 
-// Each pair has a word first and at least one more term.
-#[tactic(auto, using(crate::proofs::Headed::term_headed))]
-pub(crate) fn is_term(term: Term) -> bool
-    ensures { result ≡ is_term (term_view term.entry) }
+// Each opening bracket has a word behind it, and then not its end.
+pub(crate) fn all_headed(tokens: &[Token]) -> bool
+    ensures { result ≡ all_headed (map token tokens.now) }
 {
-    let mut rest = term.tokens();
+    let mut rest = tokens;
     while let [_, others @ ..] = rest {
         if !first_headed(rest) {
             return false;
@@ -45,6 +44,14 @@ pub(crate) fn is_term(term: Term) -> bool
         rest = others;
     }
     true
+}
+
+// Each pair has a word first and at least one more term.
+#[tactic(auto, using(crate::proofs::Headed::term_headed))]
+pub(crate) fn is_term(term: Term) -> bool
+    ensures { result ≡ is_term (term_view term.entry) }
+{
+    all_headed(term.tokens())
 }
 
 // A term whose first word is no keyword.

@@ -55,8 +55,11 @@ balanced_decides (suc d) (Token.closing ∷ ts) =
     let less : suc d - 1 ≡ d = omega arith in
     rw (some, less) (balanced_decides d ts)
 
+pub are_balanced : (xs : List Token) → Balanced 0 xs → AreTerms xs
+are_balanced xs h = let p = balanced_spread xs (outer none) h in are_terms xs p.0 p.2
+
 pub terms_if_balanced : (xs : List Token) → balanced 0 xs ≡ true → AreTerms xs
-terms_if_balanced xs e = let p = balanced_spread xs (outer none) ((balanced_decides 0 xs).0 e) in are_terms xs p.0 p.2
+terms_if_balanced xs e = are_balanced xs ((balanced_decides 0 xs).0 e)
 
 pub balanced_if_terms : (xs : List Token) → AreTerms xs → balanced 0 xs ≡ true
 balanced_if_terms xs h = (balanced_decides 0 xs).1 (subst (Balanced 0) (append-nil (flats (terms xs)) ∙ sym h) (balanced_flats (terms xs) 0 [] refl))

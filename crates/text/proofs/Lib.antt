@@ -5,3 +5,4 @@ pub mod Machine
 pub mod Nesting
 pub mod Spelling
 pub mod Spans
+pub mod Firsts

@@ -1,11 +1,19 @@
 -- What is added to the end of a buffer, token by token.
-use Rattle.std.proofs.Common.{◌≡◌, ℕ, ◌+◌, ◌<◌, ◌≤◌, Bool, true, false, List, ◌++◌, map, length, get_or, take, drop, is_err, Ok, Err, Result, sym, ap, ◌∙◌, append_assoc, append-nil}
+use Rattle.std.proofs.Common.{◌≡◌, ℕ, ◌+◌, ◌<◌, ◌≤◌, Bool, true, false, List, [], ◌∷◌, ◌++◌, map, length, get_or, take, drop, is_err, Ok, Err, Result, sym, ap, ◌∙◌, append_assoc, append-nil, Bor}
 use Rattle.std.proofs.lemmas.List.{at_drop_more, at_drop_all, take_at}
 use Rattle.std.specs.declared.alloc.AllocError.{AllocError}
 use Rattle.definitions.specs.Writing.{is_word, spaced, spelt}
 use Rattle.text.specs.declared.token.Token.{Token}
 use Rattle.text.specs.Output.{Grown, Appended}
 use Rattle.text.specs.View.{token}
+
+pub spaced_after : (old mid new : List ℕ) (at : ℕ) (s : Bor (List ℕ)) (t : Token) (after : Bool) → t ≡ Token.Word at s → after ≡ true → mid ≡ old ++ 32 ∷ [] → new ≡ mid ++ s.now → new ≡ old ++ spaced after (token t)
+spaced_after old mid new at s t after is yes_after more end =
+    end ∙ ap (λ xs. xs ++ s.now) more ∙ append_assoc old (32 ∷ []) s.now ∙ sym (λ i. old ++ spaced (yes_after i) (token (is i)))
+
+pub spaced_alone : (old mid new : List ℕ) (at : ℕ) (s : Bor (List ℕ)) (t : Token) (after : Bool) → t ≡ Token.Word at s → after ≡ false → mid ≡ old → new ≡ mid ++ s.now → new ≡ old ++ spaced after (token t)
+spaced_alone old mid new at s t after is alone same end =
+    end ∙ ap (λ xs. xs ++ s.now) same ∙ sym (λ i. old ++ spaced (alone i) (token (is i)))
 
 -- one more token is put
 pub spelt_more : (tokens : List Token) (i : ℕ) (d : Token) (after word : Bool) (start old new some : List ℕ) → i < length tokens → old ≡ start ++ some → some ++ spelt after (map token (drop i tokens)) ≡ spelt false (map token tokens) → new ≡ old ++ spaced after (token (get_or tokens i d)) → word ≡ is_word (token (get_or tokens i d)) → (more : List ℕ) × (new ≡ start ++ more) × (more ++ spelt word (map token (drop (i + 1) tokens)) ≡ spelt false (map token tokens))

@@ -1,6 +1,6 @@
 -- The terms that words and brackets spell, and the words and brackets of these terms.
-use Rattle.std.proofs.Common.{◌≡◌, ℕ, ◌-◌, ◌<◌, ◌≤◌, List, [], ◌∷◌, ◌++◌, map, length, get_or, take, drop, sym, refl, ap, ◌∙◌, append_assoc, append-nil, arith, false, ◌==◌, false-eqb}
-use Rattle.std.proofs.lemmas.List.{take-map, drop-map, take_at, drop_at, length-map, length_push}
+use Rattle.std.proofs.Common.{◌≡◌, ℕ, ◌-◌, ◌<◌, ◌≤◌, List, [], ◌∷◌, ◌++◌, map, length, get_or, take, drop, sym, refl, ap, ◌∙◌, append_assoc, append-nil, arith, false, ◌==◌, false-eqb, subst, Bor}
+use Rattle.std.proofs.lemmas.List.{take-map, drop-map, take_all, take_at, drop_at, length-map, length_push}
 use Rattle.definitions.specs.Term.{Tree, none, ◌&◌, Placed}
 use Rattle.definitions.specs.Text.{Token, flat, flats, Levels, outer, inner}
 use Rattle.definitions.specs.Reading.{add}
@@ -95,3 +95,37 @@ inside xs front (Tree.pair at ts) is long cut =
     let some : length (flats ts) ≡ length xs - 1 - 1 = omega (arith, sym (length-map xs token) ∙ ap length is, length_push (flats ts) Token.closing) in
     let here : map token front ≡ flats ts = ap (map token) cut ∙ sym (take-map token _ (drop 1 xs)) ∙ ap (take (length xs - 1 - 1)) (sym (drop-map token 1 xs) ∙ ap (drop 1) is) ∙ take_at (flats ts) (Token.closing ∷ []) _ some in
     (at, ap (Tree.pair at) (sym (ap terms here ∙ terms_flats ts)), are_terms _ ts here)
+
+-- terms that begin with a word are that word and the others
+record Worded (at : ℕ) (w : List ℕ) (xs back : List Token) : Type 0 where
+  others : AreTerms back
+  split : terms xs ≡ Tree.word at w & terms back
+
+worded : (at : ℕ) (w : List ℕ) (back : List Token) → AreTerms (Token.word at w ∷ back) → Worded at w (Token.word at w ∷ back) back
+worded at w back h = go (terms (Token.word at w ∷ back)) h refl
+  where
+    go : (ts : Placed) → Token.word at w ∷ back ≡ flats ts → terms (Token.word at w ∷ back) ≡ ts → Worded at w (Token.word at w ∷ back) back
+    go none same from = absurd (omega (arith, ap length same))
+    go (Tree.word p v & us) same from =
+        let rest : back ≡ flats us = ap (drop 1) same in
+        let one : Tree.word p v ≡ Tree.word at w = ap (λ xs. term (get_or xs 0 Token.closing ∷ [])) (sym same) in
+        let more : us ≡ terms back = sym (ap terms rest ∙ terms_flats us) in
+        record {
+          others = are_terms back us rest;
+          split = from ∙ (λ i. one i & more i);
+        }
+    go (Tree.pair p ts & us) same from =
+        let z : Token.word at w ≡ Token.opening p = ap (λ xs. get_or xs 0 Token.closing) same in
+        cc
+
+word_and_others : (xs : List src.Token) (at : ℕ) (w : Bor (List ℕ)) → AreTerms (map token xs) → 1 ≤ length xs → get_or xs 0 (src.Token.Open 0) ≡ src.Token.Word at w → Worded at w.now (map token xs) (map token (take (length xs - 1) (drop 1 xs)))
+word_and_others [] at w h some is = absurd (omega arith)
+word_and_others (x ∷ xs) at w h some is =
+    let whole : take (length (x ∷ xs) - 1) xs ≡ xs = take_all (length (x ∷ xs) - 1) xs (omega arith) in
+    rw (whole, is) (worded at w.now (map token xs) (subst (λ y. AreTerms (token y ∷ map token xs)) is h))
+
+pub word_others : (xs : List src.Token) (at : ℕ) (w : Bor (List ℕ)) → AreTerms (map token xs) → 1 ≤ length xs → get_or xs 0 (src.Token.Open 0) ≡ src.Token.Word at w → AreTerms (map token (take (length xs - 1) (drop 1 xs)))
+word_others xs at w h some is = (word_and_others xs at w h some is).others
+
+pub word_split : (xs : List src.Token) (at : ℕ) (w : Bor (List ℕ)) → AreTerms (map token xs) → 1 ≤ length xs → get_or xs 0 (src.Token.Open 0) ≡ src.Token.Word at w → terms (map token xs) ≡ Tree.word at w.now & terms (map token (take (length xs - 1) (drop 1 xs)))
+word_split xs at w h some is = (word_and_others xs at w h some is).split

@@ -1,7 +1,7 @@
 // How far a term goes.
 ghost use Rattle.std.specs.Prelude.{◌≡◌, ◌+◌, ◌^◌, ◌<◌, ◌≤◌, map, length};
 ghost use Rattle.text.specs.View.{token};
-ghost use Rattle.text.specs.Span.{opened, span, balanced, Spans};
+ghost use Rattle.text.specs.Span.{opened, span, balanced, first_span, Spans};
 
 use crate::token::Token;
 
@@ -47,4 +47,21 @@ pub(crate) fn is_balanced(tokens: &[Token]) -> bool
         depth = open_after(depth, *t);
     }
     depth == 0
+}
+
+// The number of tokens of the term that tokens begin with, if they begin with one.
+pub(crate) fn first_len(tokens: &[Token]) -> Option<usize>
+    ensures { result ≡ first_span 0 0 (map token tokens.now) }
+{
+    let mut depth = 0usize;
+    for (before, t) in tokens.iter().enumerate() {
+        if t.closes() && depth == 0 {
+            return None;
+        }
+        depth = open_after(depth, *t);
+        if depth == 0 {
+            return Some(before + 1);
+        }
+    }
+    None
 }

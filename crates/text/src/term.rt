@@ -4,7 +4,7 @@ ghost use Rattle.std.specs.Cmp.Lexicographic.{pointwise};
 ghost use Rattle.text.specs.Spelt.{alike, IsTerm, AreTerms};
 ghost use Rattle.text.specs.View.{token};
 
-use crate::span::{is_balanced, term_len};
+use crate::span::{first_len, is_balanced, term_len};
 use crate::token::Token;
 
 // The tokens of one term.
@@ -31,7 +31,15 @@ pub enum Parts<'t> {
 impl<'t> Term<'t> {
     ghost use Rattle.std.specs.Prelude.{◌≡◌};
     ghost use Rattle.definitions.specs.Text.{flat};
-    ghost use Rattle.text.specs.Terms.{tree, place, PartsAre};
+    ghost use Rattle.text.specs.Terms.{tree, place, PartsAre, StartsWith};
+
+    // The term that tokens begin with, and the tokens after it.
+    pub fn first_of(tokens: &'t [Token<'t>]) -> Option<(Term<'t>, &'t [Token<'t>])>
+        ensures { StartsWith result (map token tokens.now) }
+    {
+        let (first, rest) = tokens.split_at(first_len(tokens)?);
+        Some((Term { tokens: first }, rest))
+    }
 
     pub fn tokens(self) -> &'t [Token<'t>]
         ensures { map token result.now ≡ flat (tree self.entry) }
@@ -82,7 +90,7 @@ impl<'t> Terms<'t> {
     ghost use Rattle.definitions.specs.Term.{none, Placed};
     ghost use Rattle.definitions.specs.Text.{flats};
     ghost use Rattle.text.specs.Spelt.{terms};
-    ghost use Rattle.text.specs.Terms.{tree, trees, left};
+    ghost use Rattle.text.specs.Terms.{tree, trees, left, WordFirst};
 
     // The terms that tokens are, if their brackets match.
     #[tactic(auto, using(crate::proofs::Balance::terms_if_balanced, crate::proofs::Balance::balanced_if_terms, crate::proofs::Spelt::are_terms))]
@@ -120,6 +128,20 @@ impl<'t> Terms<'t> {
         }
         let (first, others) = self.tokens.split_at(term_len(self.tokens));
         Some((Term { tokens: first }, Terms { tokens: others }))
+    }
+
+    // The word that comes first and the other terms.
+    #[tactic(auto, using(crate::proofs::Spelt::word_split, crate::proofs::Spelt::word_others))]
+    pub fn first_word(self) -> Option<(&'t [u8], Terms<'t>)>
+        ensures { WordFirst result (trees self.entry) }
+    {
+        let [first, others @ ..] = self.tokens else {
+            return None;
+        };
+        match *first {
+            Token::Word { at: _, spelling } => Some((spelling, Terms { tokens: others })),
+            _ => None,
+        }
     }
 }
 

@@ -5,7 +5,7 @@
 mod tests {
     use std::alloc::{AllocError, Global};
     use std::test::Fail;
-    use text::{Forms, Parts, Terms, TextFault, Token, term_len, write};
+    use text::{Forms, Parts, Term, Terms, TextFault, Token, term_len, write};
 
     // The number and place of a text's refusal, or nothing where it is read.
     fn refused(heap: Global, text: &[u8]) -> Result<Option<(u8, usize)>, AllocError> {
@@ -369,6 +369,33 @@ mod tests {
             term_len(&[Token::Open { at: 0 }, Token::Open { at: 1 }, Token::Close]),
             3
         );
+    }
+
+    #[test]
+    fn terms_at_the_start(rt: HostRuntime) -> Result<(), Fail> {
+        let open = Token::Open { at: 0 };
+        let word = Token::Word {
+            at: 1,
+            spelling: b"a",
+        };
+        let close = Token::Close;
+        let begun: [(&[Token], usize, usize); 5] = [
+            (&[word], 1, 0),
+            (&[word, close], 1, 1),
+            (&[open, word, close, word, open], 3, 2),
+            (&[open, open, close, word, close, close], 5, 1),
+            (&[open, close, open, word, close], 2, 3),
+        ];
+        for (i, case) in begun.iter().enumerate() {
+            let (tokens, len, others) = *case;
+            let (term, rest) = Term::first_of(tokens).ok_or("a term")?;
+            assert_eq!(rt; (term.tokens().len(), rest.len()), (len, others), "{}", i);
+        }
+        let unbegun: [&[Token]; 4] = [&[], &[open, word], &[open, open, close], &[close, word]];
+        for (i, tokens) in unbegun.iter().enumerate() {
+            assert!(rt; Term::first_of(*tokens).is_none(), "{}", i);
+        }
+        Ok(())
     }
 
     #[test]
