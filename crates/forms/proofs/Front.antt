@@ -16,11 +16,15 @@ use Rattle.text.specs.Terms.{tree}
 use Rattle.text.specs.View.{token}
 use Rattle.text.proofs.Spelt.{term_flat, is_term as a_term}
 use Rattle.forms.specs.declared.fault.FormFault.{FormFault}
+use Rattle.forms.specs.declared.atom.Atom.{Atom}
+use Rattle.forms.specs.declared.body.Body.{Body}
 use Rattle.forms.specs.declared.form.Form.{Form}
+use Rattle.forms.specs.Atoms.{atom_view}
+use Rattle.forms.specs.Bodies.{body_view}
 use Rattle.forms.specs.Args.{one_term}
-use Rattle.forms.specs.Formed.{FormIs, bodiless, form_view, led_form}
+use Rattle.forms.specs.Formed.{FormIs, bodiless, form_view, led_form, of_head, rule_view}
 use Rattle.forms.specs.Headed.{all_headed}
-use Rattle.forms.specs.Tokens.{front, one_word, Closes, few, WholeIs}
+use Rattle.forms.specs.Tokens.{front, one_word, Closes, WholeIs}
 use Rattle.forms.specs.declared.keyword.Keyword as src_keyword
 use Rattle.forms.specs.View.{keyword_view, term_view}
 use Rattle.forms.proofs.Formed.{led_form_is}
@@ -71,16 +75,6 @@ pub declared_whole : (t : Term) (xs ys : List Token) (b c : Bool) → xs ≡ fla
 declared_whole t xs ys false c is closed = tt
 declared_whole t xs ys true false is closed = tt
 declared_whole t xs ys true true is closed = (tree t & none, closes_first (tree t) none xs ys is (closed.0 refl))
-
-pub few_two : (t u : Tree ℕ) (ts : Placed) (xs ys zs : List Token) (b : Bool) → xs ≡ flat t ++ ys → ys ≡ flat u ++ zs → Decides b (zs ≡ Token.closing ∷ []) → Closes xs ts → b ≡ few ts
-few_two t u ts xs ys zs b is more closed closes =
-    let p = behind_first t ts xs ys is closes in
-    let q = behind_first u p.others ys zs more p.closes in
-    go q.others q.closes ∙ ap (λ us. few (t & us)) (sym q.split) ∙ ap few (sym p.split)
-  where
-    go : (us : Placed) → Closes zs us → b ≡ few (t & (u & us))
-    go none c = closed.1 c
-    go (v & us) c = decided_false b closed (not_closed v us zs c)
 
 -- a pair that a word comes first in
 pub record Opened (u : Tree ℕ) (w : List ℕ) (ys : List Token) : Type 0 where
@@ -140,28 +134,11 @@ unled w k ts e = cond-false _ _ _ (unlike w k e)
 pub form_unled : (w : List ℕ) (ts : terms.Terms) → keyword w ≡ None → form.form (Tree.pair tt (Tree.word tt w & ts)) ≡ bodiless (Tree.pair tt (Tree.word tt w & ts))
 form_unled w ts e = rw (unled w Keyword.role ts e, unled w Keyword.init ts e, unled w Keyword.arrow ts e) refl
 
--- no head has more than two terms behind its keyword
-head_long : (k : Keyword) (t u v : terms.Term) (ts : List terms.Term) → head_atom k (t ∷ u ∷ v ∷ ts) ≡ None
-head_long Keyword.role t u v ts = refl
-head_long Keyword.init t u v ts = refl
-head_long Keyword.true_now t u v ts = refl
-head_long Keyword.next t u v ts = refl
-head_long Keyword.legal t u v ts = refl
-head_long Keyword.does t u v ts = refl
-head_long Keyword.sees t u v ts = refl
-head_long Keyword.goal t u v ts = refl
-head_long Keyword.terminal t u v ts = refl
-head_long Keyword.knows t u v ts = refl
-head_long Keyword.distinct t u v ts = refl
-head_long Keyword.negation t u v ts = refl
-head_long Keyword.disjunction t u v ts = refl
-head_long Keyword.arrow t u v ts = refl
+pub led_head : (w : List ℕ) (k : Keyword) (ts : terms.Terms) → keyword w ≡ Some k → bodiless (Tree.pair tt (Tree.word tt w & ts)) ≡ of_head (head_atom k (list ts))
+led_head w k ts e = rw e refl
 
-pub many_no_head : (w : List ℕ) (k : Keyword) (ts : Placed) → keyword w ≡ Some k → few ts ≡ false → bodiless (Tree.pair tt (Tree.word tt w & bares ts)) ≡ None
-many_no_head w k none e many = cc
-many_no_head w k (t & none) e many = cc
-many_no_head w k (t & (u & none)) e many = cc
-many_no_head w k (t & (u & (v & ts))) e many = rw e (ap (form.map_some _) (head_long k (bare t) (bare u) (bare v) (list (bares ts))))
+pub head_made : (b : Body) (a : Atom Term) (o : Option (form.Atom terms.Term)) → body_view b ≡ [] → Some (atom_view a) ≡ o → of_head o ≡ Some (form.Form.rules (rule_view (record { head = a; body = b })))
+head_made b a o empty is = ap of_head (sym is) ∙ ap (λ ps. Some (form.Form.rules (record { head = atom_view a; parts = ps }))) (sym empty)
 
 plain_head : (w : List ℕ) (ts : terms.Terms) → keyword w ≡ None → form.head (Tree.pair tt (Tree.word tt w & ts)) ≡ when (is_term (Tree.pair tt (Tree.word tt w & ts))) (form.Atom.fact (Tree.pair tt (Tree.word tt w & ts)))
 plain_head w ts e = rw e refl
@@ -225,3 +202,7 @@ led_bodiless src_keyword.Keyword.Distinct ts t a b c = refl
 led_bodiless src_keyword.Keyword.Not ts t a b c = refl
 led_bodiless src_keyword.Keyword.Or ts t a b c = refl
 led_bodiless src_keyword.Keyword.Arrow ts t a b c = absurd (c refl)
+
+pub head_within : {X : Type 0} (o : Option X) (a : X) (P : Type 0) → o ≡ Some a → MatchOption o (Unit {0}) (λ x. P) → P
+head_within None a P e h = cc
+head_within (Some x) a P e h = h

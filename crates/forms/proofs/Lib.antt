@@ -5,5 +5,6 @@ pub mod Headed
 pub mod Putting
 pub mod Joining
 pub mod Streamed
+pub mod Heads
 pub mod Formed
 pub mod Front

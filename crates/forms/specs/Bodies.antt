@@ -1,9 +1,9 @@
 -- What the parts of a body stand for in the definitions, and what adding to some comes to.
 --     others                   the alternatives that follow in the same part
 --     parts                    the parts that alternatives make up
---     parts_view, body_view    the parts of a list of them, and of a body
+--     parts_view, body_view    the parts of a vector of alternatives, and of a body
 --     Added                    one is added at the end, or there is none, or memory is wanting
---     joined                   the last of some parts with another alternative
+--     joined                   some parts, the last of them with another alternative
 --     Joined                   one is joined to the last part, or there is none, or memory is wanting
 --     Put                      some are added at the end, or there are none, or memory is wanting
 --     alone, alternatives      a part of one literal, and the literals of an `or`, at least one

@@ -1,6 +1,6 @@
 -- What rules and forms over terms stand for in the definitions.
 --     rule_view, form_view   a rule and a form
---     bodiless               the rule of a head alone
+--     of_head, bodiless      the rule of a head alone, if it is one, and of the head that a term is
 --     led_form               the form of a pair, by its keyword
 --     FormIs                 the form of the definitions, or the term is none, or memory is wanting
 use Rattle.std.specs.Prelude.{◌≡◌, List, [], Some, None, Ok, Err, Option, Result}
@@ -21,8 +21,11 @@ form_view (Form.Declares t) = form.Form.declares (term_view t)
 form_view (Form.Opens t) = form.Form.opens (term_view t)
 form_view (Form.Rules r) = form.Form.rules (rule_view r)
 
+abbrev pub of_head : Option (form.Atom Term) → Option form.Form
+of_head o = form.map_some (λ a. form.Form.rules (record { head = a; parts = [] })) o
+
 abbrev pub bodiless : Term → Option form.Form
-bodiless t = form.map_some (λ a. form.Form.rules (record { head = a; parts = [] })) (form.head t)
+bodiless t = of_head (form.head t)
 
 -- the form of a pair, by the keyword that comes first, what follows it, and the whole
 abbrev pub led_form : form.Keyword → List Term → Term → Option form.Form

@@ -1,13 +1,13 @@
--- The tokens of a term, of which no more are looked at than are needed.
+-- What the tokens of a term begin with, and what follows it.
+--     front_view   a word and tokens, as the definitions have them
 --     front        the word that a pair begins with, and the tokens behind it
 --     one_word     a word alone
 --     Closes       they are those of these terms, and then a closing bracket
---     few          at most two terms
---     Taken        the term that they began with is taken off them, or they begin with none
+--     Taken        the term that they began with is taken off them, or they begin with none and stay
 --     WholeIs      the term that all of them are, or they are none
 use Rattle.std.specs.Prelude.{◌≡◌, ℕ, Bool, true, false, List, [], ◌∷◌, ◌++◌, Some, None, Option, map}
 use Rattle.std.specs.Borrow.{Bor}
-use Rattle.definitions.specs.Term.{Tree, none, ◌&◌, Placed}
+use Rattle.definitions.specs.Term.{Tree, Placed}
 use Rattle.definitions.specs.Text.{Token, flat, flats}
 use Rattle.text.specs.declared.term.Term.{Term}
 use Rattle.text.specs.declared.token.Token as src
@@ -36,14 +36,8 @@ one_word (Token.closing ∷ ts) = false
 abbrev pub Closes : List Token → Placed → Type 0
 Closes xs ts = xs ≡ flats ts ++ Token.closing ∷ []
 
-abbrev pub few : Placed → Bool
-few none = true
-few (t & none) = true
-few (t & (u & none)) = true
-few (t & (u & (v & ts))) = false
-
 abbrev pub Taken : Option Term → List Token → List Token → Type 0
-Taken None old new = (t : Tree ℕ) (rest : List Token) → old ≡ flat t ++ rest → ⊥
+Taken None old new = (new ≡ old) × ((t : Tree ℕ) (rest : List Token) → old ≡ flat t ++ rest → ⊥)
 Taken (Some t) old new = old ≡ flat (tree t) ++ new
 
 abbrev pub WholeIs : Option Term → List Token → Type 0

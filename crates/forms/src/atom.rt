@@ -1,18 +1,22 @@
 // Atoms, in bodies and as heads.
-ghost use Rattle.std.specs.Prelude.{◌≡◌, List, Option};
+ghost use Rattle.std.specs.Prelude.{◌≡◌, List, [], ◌∷◌, Option, MatchOption, map};
 ghost use Rattle.std.specs.Option.{option_map};
 ghost use Rattle.definitions.specs.Form as form;
-ghost use Rattle.definitions.specs.Form.{atom, head, is_term, when, a_goal, a_knows, body_atom, head_atom, word_atom, an_atom};
+ghost use Rattle.definitions.specs.Form.{atom, head, is_term, when, a_goal, a_knows, goal_of, list, body_atom, head_atom, word_atom, an_atom};
 ghost use Rattle.definitions.specs.Term as terms;
+ghost use Rattle.definitions.specs.Term.{Placed, bares};
+ghost use Rattle.text.specs.View.{token};
 ghost use Rattle.definitions.specs.Form.Atom.{fact};
 ghost use Rattle.forms.specs.Atoms.{atom_view, Makes};
+ghost use Rattle.forms.specs.Tokens.{Closes};
 ghost use Rattle.forms.specs.View.{keyword_view, term_view, terms_view};
 
 use crate::args::{both, one_term, only, two_terms};
 use crate::keyword::{Keyword, keyword_of};
 use crate::shape::{Shape, shape_of};
+use crate::tokens::is_closed;
 use crate::value::{is_plain, is_term, value_of};
-use text::{Term, Terms};
+use text::{Term, Terms, Token};
 
 // X is what names roles, features, moves, percepts and facts: terms, or numbers.
 #[derive(Clone, Copy)]
@@ -30,12 +34,18 @@ pub enum Atom<X> {
     Sees(X, X),
 }
 
+fn goal_of<'t>(role: Term<'t>, value: Term<'t>) -> Option<Atom<Term<'t>>>
+    ensures { option_map atom_view result ≡ goal_of (term_view role.entry) (term_view value.entry) }
+{
+    let value = value_of(value)?;
+    is_term(role).then_some(Atom::Goal(role, value))
+}
+
 fn a_goal<'t>(args: Terms<'t>) -> Option<Atom<Term<'t>>>
     ensures { option_map atom_view result ≡ a_goal (terms_view args.entry) }
 {
     let (role, value) = both(args)?;
-    let value = value_of(value)?;
-    is_term(role).then_some(Atom::Goal(role, value))
+    goal_of(role, value)
 }
 
 fn a_knows<'t>(args: Terms<'t>) -> Option<Atom<Term<'t>>>
@@ -64,17 +74,54 @@ fn body_keyword<'t>(k: Keyword, args: Terms<'t>) -> Option<Atom<Term<'t>>>
     }
 }
 
+// What a rule may conclude of one term behind a keyword.
+fn head_of_one<'t>(k: Keyword, term: Term<'t>) -> Option<Atom<Term<'t>>>
+    ensures { option_map atom_view result ≡ head_atom (keyword_view k) (term_view term.entry ∷ []) }
+{
+    match k {
+        Keyword::Next => is_term(term).then_some(Atom::Next(term)),
+        _ => None,
+    }
+}
+
+// And of two.
+fn head_of_two<'t>(k: Keyword, first: Term<'t>, second: Term<'t>) -> Option<Atom<Term<'t>>>
+    ensures { option_map atom_view result ≡ head_atom (keyword_view k) (term_view first.entry ∷ term_view second.entry ∷ []) }
+{
+    match k {
+        Keyword::Legal => (is_term(first) && is_term(second)).then_some(Atom::Legal(first, second)),
+        Keyword::Sees => (is_term(first) && is_term(second)).then_some(Atom::Sees(first, second)),
+        Keyword::Goal => goal_of(first, second),
+        _ => None,
+    }
+}
+
 // What a rule may conclude, by its keyword.
+#[tactic(auto, using(crate::proofs::Heads::head_none, crate::proofs::Heads::head_one, crate::proofs::Heads::head_two, crate::proofs::Heads::head_more))]
 fn head_keyword<'t>(k: Keyword, args: Terms<'t>) -> Option<Atom<Term<'t>>>
     ensures { option_map atom_view result ≡ head_atom (keyword_view k) (terms_view args.entry) }
 {
-    match k {
-        Keyword::Next => one_term(args).map(Atom::Next),
-        Keyword::Legal => two_terms(args).map(|(r, m)| Atom::Legal(r, m)),
-        Keyword::Sees => two_terms(args).map(|(r, e)| Atom::Sees(r, e)),
-        Keyword::Goal => a_goal(args),
-        _ => None,
+    let (first, rest) = args.split_first()?;
+    if rest.is_empty() {
+        return head_of_one(k, first);
     }
+    head_of_two(k, first, only(rest)?)
+}
+
+// The same of the terms before a closing bracket, of which no more than two are looked at.
+pub(crate) fn head_behind<'t>(k: Keyword, tokens: &'t [Token<'t>]) -> Option<Atom<Term<'t>>>
+    ensures value { (ts : Placed) → Closes (map token tokens.entry.now) ts → option_map atom_view result ≡ head_atom (keyword_view k) (list (bares ts)) }
+    ensures whole { MatchOption result (Unit {0}) (λ a. (ts : Placed) × Closes (map token tokens.entry.now) ts) }
+{
+    let (first, rest) = Term::first_of(tokens)?;
+    if is_closed(rest) {
+        return head_of_one(k, first);
+    }
+    let (second, rest) = Term::first_of(rest)?;
+    if !is_closed(rest) {
+        return None;
+    }
+    head_of_two(k, first, second)
 }
 
 fn word_atom<'t>(k: Option<Keyword>, term: Term<'t>) -> Option<Atom<Term<'t>>>

@@ -1,20 +1,20 @@
 // Declarations and rules.
 ghost use Rattle.std.specs.Prelude.{◌≡◌, ℕ, List, Some, None, map, OnOk};
 ghost use Rattle.definitions.specs.Form as language;
-ghost use Rattle.definitions.specs.Form.{form, a_declaration, a_rule, keyword, leading, list};
+ghost use Rattle.definitions.specs.Form.{form, a_declaration, a_rule, head_atom, keyword, leading, list};
 ghost use Rattle.definitions.specs.Term.{Tree, Placed, bare, bares};
 ghost use Rattle.definitions.specs.Text.{flat};
 ghost use Rattle.text.specs.Spelt.{IsTerm};
 ghost use Rattle.text.specs.View.{token};
-ghost use Rattle.forms.specs.Formed.{FormIs, bodiless};
+ghost use Rattle.forms.specs.Formed.{FormIs, bodiless, of_head};
 ghost use Rattle.forms.specs.Tokens.{front, Closes};
-ghost use Rattle.forms.specs.View.{term_view};
+ghost use Rattle.forms.specs.View.{keyword_view, term_view};
 
-use crate::atom::{Atom, head_of};
+use crate::atom::{Atom, head_behind, head_of};
 use crate::body::Body;
 use crate::fault::FormFault;
 use crate::keyword::{Keyword, keyword_of};
-use crate::tokens::{are_many, declared, front, is_closed, is_one_word, whole};
+use crate::tokens::{declared, front, is_closed, is_one_word, whole};
 use crate::value::all_headed;
 use std::alloc::Global;
 use text::{Term, Token};
@@ -80,20 +80,17 @@ fn fact_of<'t>(heap: Global, term: Term<'t>) -> Result<Form<'t>, FormFault>
     Ok(Form::Rules(Rule { head, body }))
 }
 
-// A head alone that begins with a keyword: no head has more than two terms behind it.
-fn led_fact<'t>(
-    heap: Global,
-    rest: &'t [Token<'t>],
-    tokens: &'t [Token<'t>],
-) -> Result<Form<'t>, FormFault>
-    ensures value { (w : List ℕ) (k : language.Keyword) (u : Tree ℕ) → front (map token tokens.entry.now) ≡ Some (w, map token rest.entry.now) → keyword w ≡ Some k → map token tokens.entry.now ≡ flat u → FormIs result (bodiless (bare u)) }
-    ensures whole { OnOk result (IsTerm (map token tokens.entry.now)) }
+// A head alone that begins with a keyword, by what stands behind it.
+#[tactic(auto, using(crate::proofs::Front::head_made, crate::proofs::Front::head_within))]
+fn led_fact<'t>(heap: Global, k: Keyword, tokens: &'t [Token<'t>]) -> Result<Form<'t>, FormFault>
+    ensures value { (ts : Placed) → Closes (map token tokens.entry.now) ts → FormIs result (of_head (head_atom (keyword_view k) (list (bares ts)))) }
+    ensures whole { OnOk result ((ts : Placed) × Closes (map token tokens.entry.now) ts) }
 {
-    if are_many(rest) {
+    let Some(head) = head_behind(k, tokens) else {
         return Err(FormFault::Broken);
-    }
-    let term = whole(tokens).ok_or(FormFault::Broken)?;
-    fact_of(heap, term)
+    };
+    let body = Body::new(heap);
+    Ok(Form::Rules(Rule { head, body }))
 }
 
 // A plain fact of more than a word.
@@ -129,7 +126,7 @@ pub fn form_in<'t>(heap: Global, term: Term<'t>) -> Result<Form<'t>, FormFault>
     form_of(heap, term.tokens())
 }
 
-// The form that the tokens of a term are. Nothing behind the first that is broken is looked at.
+// The form that the tokens of a term are. A declaration or a rule is read to its first broken term, and a head alone to its third.
 pub fn form_of<'t>(heap: Global, tokens: &'t [Token<'t>]) -> Result<Form<'t>, FormFault>
     ensures value { (u : Tree ℕ) → map token tokens.entry.now ≡ flat u → FormIs result (form (bare u)) }
     ensures whole { OnOk result (IsTerm (map token tokens.entry.now)) }
@@ -141,7 +138,7 @@ pub fn form_of<'t>(heap: Global, tokens: &'t [Token<'t>]) -> Result<Form<'t>, Fo
         Some(Keyword::Role) => declaration_of(rest),
         Some(Keyword::Init) => opening_of(rest),
         Some(Keyword::Arrow) => rule_of(heap, rest),
-        Some(_) => led_fact(heap, rest, tokens),
+        Some(k) => led_fact(heap, k, rest),
         None => plain_fact(heap, tokens),
     }
 }

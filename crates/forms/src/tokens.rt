@@ -1,5 +1,5 @@
-// The tokens of a term, of which no more are looked at than are needed.
-ghost use Rattle.std.specs.Prelude.{◌≡◌, true, false, [], ◌∷◌, map, MatchOption};
+// What the tokens of a term begin with, and what follows it.
+ghost use Rattle.std.specs.Prelude.{◌≡◌, [], ◌∷◌, map, MatchOption};
 ghost use Rattle.std.specs.Bool.{Decides};
 ghost use Rattle.std.specs.Option.{option_map};
 ghost use Rattle.definitions.specs.Form.{list};
@@ -7,7 +7,7 @@ ghost use Rattle.definitions.specs.Term.{Placed, bares};
 ghost use Rattle.definitions.specs.Text.Token.{closing};
 ghost use Rattle.text.specs.View.{token};
 ghost use Rattle.forms.specs.Args.{one_term};
-ghost use Rattle.forms.specs.Tokens.{front, front_view, one_word, Closes, few, WholeIs};
+ghost use Rattle.forms.specs.Tokens.{front, front_view, one_word, Closes, WholeIs};
 ghost use Rattle.forms.specs.View.{term_view};
 
 use crate::value::is_term;
@@ -68,22 +68,6 @@ pub(crate) fn whole<'t>(tokens: &'t [Token<'t>]) -> Option<Term<'t>>
 {
     let (term, others) = Term::first_of(tokens)?;
     others.is_empty().then_some(term)
-}
-
-// More than two terms stand before the closing bracket. It is looked for only where there are so many tokens that to read them all would take long.
-pub(crate) fn are_many(tokens: &[Token]) -> bool
-    ensures { result ≡ true → (ts : Placed) → Closes (map token tokens.now) ts → few ts ≡ false }
-{
-    if tokens.len() < 64 {
-        return false;
-    }
-    let Some((_, rest)) = Term::first_of(tokens) else {
-        return false;
-    };
-    let Some((_, rest)) = Term::first_of(rest) else {
-        return false;
-    };
-    !is_closed(rest)
 }
 
 // The only term before the closing bracket, if each pair in it has a word first and at least one more term.

@@ -2,6 +2,7 @@
 ghost use Rattle.std.specs.Prelude.{◌≡◌, ◌-◌, map};
 ghost use Rattle.definitions.specs.Form.{is_term, plain, value, when, digit};
 ghost use Rattle.definitions.specs.Term.{Tree};
+ghost use Rattle.text.specs.Spelt.{opens};
 ghost use Rattle.text.specs.View.{token};
 ghost use Rattle.forms.specs.Headed.{first_headed, all_headed};
 ghost use Rattle.forms.specs.View.{term_view};
@@ -32,16 +33,20 @@ fn first_headed(tokens: &[Token]) -> bool
     }
 }
 
+fn is_open(t: Token) -> bool
+    ensures { result ≡ opens (token t.entry) }
+{
+    matches!(t, Token::Open { at: _ })
+}
+
 // Each opening bracket has a word behind it, and then not its end.
 pub(crate) fn all_headed(tokens: &[Token]) -> bool
     ensures { result ≡ all_headed (map token tokens.now) }
 {
-    let mut rest = tokens;
-    while let [_, others @ ..] = rest {
-        if !first_headed(rest) {
+    for (i, t) in tokens.iter().enumerate() {
+        if is_open(*t) && !first_headed(&tokens[i..]) {
             return false;
         }
-        rest = others;
     }
     true
 }

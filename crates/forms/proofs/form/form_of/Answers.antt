@@ -6,7 +6,7 @@ use Rattle.text.specs.View.{token}
 use Rattle.forms.specs.Formed.{FormIs, bodiless}
 use Rattle.forms.specs.Tokens.{front}
 use Rattle.forms.specs.View.{keyword_view}
-use Rattle.forms.proofs.Front.{form_led, form_unled, led_bodiless, opened, rule_within}
+use Rattle.forms.proofs.Front.{form_led, form_unled, led_bodiless, led_head, opened, rule_within}
 use Rattle.forms.proofs.form.form_of.Goals as goal
 
 pub returns-in-Some-Role-clause-value : goal.returns-in-Some-Role-clause-value
@@ -38,10 +38,14 @@ returns-in-Some-keyword_of c =
     record {
       value = λ u is.
           let o = opened u c.in-Some.word.now (map token c.in-Some.rest.now) (ap front (sym is) ∙ sym c.in-Some.ensures) in
-          let k = keyword_view c.in-Some-keyword_of.field-0 in
-          let same = form_led u c.in-Some.word.now k o.behind o.same (sym c.in-Some-keyword_of.ensures) ∙ led_bodiless c.in-Some-keyword_of.field-0 (list (bares o.behind)) (bare u) (search rules) (search rules) (search rules) in
-          subst (FormIs c.led_fact.result) (sym same) (c.led_fact.ensures.value c.in-Some.word.now k u (sym c.in-Some.ensures) (sym c.in-Some-keyword_of.ensures) is);
-      whole = c.led_fact.ensures.whole;
+          let k = keyword_view c.in-Some-keyword_of.k in
+          let same =
+          form_led u c.in-Some.word.now k o.behind o.same (sym c.in-Some-keyword_of.ensures)
+          ∙ led_bodiless c.in-Some-keyword_of.k (list (bares o.behind)) (bare u) (search rules) (search rules) (search rules)
+          ∙ ap bodiless o.same
+          ∙ led_head c.in-Some.word.now k (bares o.behind) (sym c.in-Some-keyword_of.ensures) in
+          subst (FormIs c.led_fact.result) (sym same) (c.led_fact.ensures.value o.behind o.closes);
+      whole = rule_within c.led_fact.result _ _ _ (sym c.in-Some.ensures) c.led_fact.ensures.whole;
     }
 
 pub returns-in-None-clause-value : goal.returns-in-None-clause-value

@@ -13,7 +13,7 @@ loop-rest-init c = streamed_none part _ _
 pub returns-in_default-clause-value : goal.returns-in_default-clause-value
 returns-in_default-clause-value c = λ ts closes.
     let p = c.loop-rest.invariant.left ts closes in
-    absurd (some_left c.is_closed.result p.0 _ c.is_closed.ensures c.loop-rest-test.true p.1 (none_begins p.0 _ c.in_default.ensures p.1))
+    absurd (some_left c.is_closed.result p.0 _ c.is_closed.ensures c.loop-rest-test.true p.1 (none_begins p.0 _ c.in_default.ensures.1 p.1))
 
 pub loop-rest-preserved : goal.loop-rest-preserved
 loop-rest-preserved c = streamed_more part _ _ _ (tree c.in-Some.term) _ _ _ c.loop-rest.invariant c.in-Some.ensures c.in_ok-put.ensures
